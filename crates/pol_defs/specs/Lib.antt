@@ -1,0 +1,11 @@
+pub mod Tuples
+pub mod Relations
+pub mod Operations
+pub mod Least
+pub mod Classes
+pub mod Lines
+pub mod Refusals
+pub mod Files
+pub mod Grammar
+pub mod Reports
+pub mod Due
