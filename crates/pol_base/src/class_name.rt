@@ -1,0 +1,50 @@
+ghost use Rattle.std.specs.Prelude.{◌≡◌, ◌≢◌, IfSome, IfNone};
+ghost use Rattle.pol_defs.specs.Classes.{Class, class_word};
+ghost use Rattle.pol_base.specs.Names.{class_named};
+
+/// A class of closure operations. Declared in the order in which classes are tried.
+#[derive(Clone, Copy, Debug, PartialEq, Eq)]
+pub enum ClassName {
+    Constant,
+    Semilattice,
+    SetFunction,
+    Majority,
+    Nu4,
+    Affine,
+    Maltsev,
+}
+
+impl ClassName {
+    /// The word of the class in a report.
+    pub fn word(self) -> &'static [u8]
+        ensures word { result.now ≡ class_word (class_named self) }
+    {
+        match self {
+            ClassName::Constant => b"constant",
+            ClassName::Semilattice => b"semilattice",
+            ClassName::SetFunction => b"set-function",
+            ClassName::Majority => b"majority",
+            ClassName::Nu4 => b"nu4",
+            ClassName::Affine => b"affine",
+            ClassName::Maltsev => b"maltsev",
+        }
+    }
+}
+
+/// The class that has the word.
+pub fn class_of(word: &[u8]) -> Option<ClassName>
+    ensures found { IfSome result (λ name. word.now ≡ class_word (class_named name)) }
+    ensures none { IfNone result ((class : Class) → word.now ≢ class_word class) }
+{
+    [
+        ClassName::Constant,
+        ClassName::Semilattice,
+        ClassName::SetFunction,
+        ClassName::Majority,
+        ClassName::Nu4,
+        ClassName::Affine,
+        ClassName::Maltsev,
+    ]
+    .into_iter()
+    .find(|name| name.word() == word)
+}

@@ -1,0 +1,58 @@
+ghost use Rattle.std.specs.Prelude.{◌≡◌, ℕ, List, [], ◌∷◌, ◌++◌, IfOk, OnOk, OnErr};
+
+use crate::NoMemory;
+use std::alloc::Global;
+use std::marker::Model;
+
+/// A list of numbers: a scope, the references of a step, or sizes.
+#[derive(Debug, Drop)]
+pub struct Numbers {
+    items: Vec<u32>,
+}
+
+impl Model for Numbers {
+    ghost Value = { List ℕ };
+
+    ghost view = { λ n. n.items.items };
+}
+
+impl Numbers {
+    /// The empty list. Takes no memory.
+    pub fn new(alloc: Global) -> Numbers
+        ensures empty { result ≡ [] }
+    {
+        Numbers {
+            items: Vec::new(alloc),
+        }
+    }
+
+    pub fn from_slice(alloc: Global, items: &[u32]) -> Result<Numbers, NoMemory>
+        ensures ok { IfOk result (λ numbers. numbers ≡ items.now) }
+    {
+        Ok(Numbers {
+            items: Vec::from_slice(alloc, items)?,
+        })
+    }
+
+    pub fn push(&mut self, item: u32) -> Result<(), NoMemory>
+        ensures ok { OnOk result (self.new ≡ self.old ++ item ∷ []) }
+        ensures err { OnErr result (self.new ≡ self.old) }
+    {
+        self.items.push(item)?;
+        Ok(())
+    }
+
+    pub fn as_slice(&self) -> &[u32]
+        ensures items { result.now ≡ self.now }
+    {
+        self.items.as_slice()
+    }
+
+    pub fn copy(&self) -> Result<Numbers, NoMemory>
+        ensures ok { IfOk result (λ numbers. numbers ≡ self.now) }
+    {
+        Ok(Numbers {
+            items: self.items.clone()?,
+        })
+    }
+}
