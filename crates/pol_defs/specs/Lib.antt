@@ -3,6 +3,7 @@ pub mod Relations
 pub mod Operations
 pub mod Least
 pub mod Classes
+pub mod Texts
 pub mod Lines
 pub mod Refusals
 pub mod Files

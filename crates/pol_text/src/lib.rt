@@ -1,0 +1,16 @@
+//! Lines, tokens, numbers and names of a text, and the refusals of texts.
+#![tactic(auto)]
+
+mod decimals;
+mod lines;
+mod names;
+mod refusal;
+mod tokens;
+mod word;
+
+pub use decimals::{number, put_number};
+pub use lines::{Line, Lines, count_lines, significant};
+pub use names::is_name;
+pub use refusal::{ReadFail, Refusal, put_refusal};
+pub use tokens::Tokens;
+pub use word::Word;

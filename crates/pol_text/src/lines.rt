@@ -1,0 +1,160 @@
+ghost use Rattle.std.specs.Prelude.{◌≡◌, ℕ, ◌+◌, ◌<◌, ◌^◌, List, length, slice_get, option_map};
+ghost use Rattle.std.specs.Iterator.{YieldsFirst, item_count};
+ghost use Rattle.pol_defs.specs.Lines.{LineView, lines_of, line_text, tokens_of, is_significant, significant_among, significant_lines};
+
+use crate::Tokens;
+use memchr::memchr;
+use std::marker::Model;
+
+/// A significant line: it has a token, and its first token does not begin with `#`.
+#[derive(Drop)]
+pub struct Line<'a> {
+    number: u32,
+    text: &'a [u8],
+    after: usize,
+}
+
+impl Model for Line<'_> {
+    ghost Value = { LineView };
+
+    ghost view = { λ l. record { number = l.number; tokens = tokens_of l.text.now; after = l.after } };
+
+    ghost invariant = { λ l. l.number + 1 < 2 ^ 32 };
+}
+
+impl<'a> Line<'a> {
+    /// The number of the line, where the lines before it count too.
+    pub fn number(&self) -> u32
+        ensures number { result ≡ self.now.number }
+    {
+        self.number
+    }
+
+    /// The number of the line behind this one.
+    pub fn next_number(&self) -> u32
+        ensures number { result ≡ self.now.number + 1 }
+    {
+        self.number + 1
+    }
+
+    /// The place behind the line in the text that it is a line of, its LF included.
+    pub fn after(&self) -> usize
+        ensures place { result ≡ self.now.after }
+    {
+        self.after
+    }
+
+    /// The tokens, from left to right.
+    pub fn tokens(&self) -> Tokens<'a>
+        ensures tokens { result ≡ self.now.tokens }
+    {
+        Tokens::new(self.text)
+    }
+
+    /// How many tokens there are.
+    pub fn count(&self) -> usize
+        ensures tokens { result ≡ length self.now.tokens }
+    {
+        self.tokens().count()
+    }
+
+    /// The token at place `i`, counted from 0.
+    pub fn token(&self, i: usize) -> Option<&'a [u8]>
+        ensures token { option_map (λ t. t.now) result ≡ slice_get self.now.tokens i }
+    {
+        self.tokens().nth(i)
+    }
+}
+
+/// The significant lines that are left of a text, in their order.
+#[derive(Drop)]
+pub struct Lines<'a> {
+    rest: &'a [u8],
+    number: u32,
+    place: usize,
+}
+
+impl Model for Lines<'_> {
+    ghost Value = { List LineView };
+
+    ghost view = { λ l. significant_among l.number l.place (lines_of l.rest.now) };
+
+    ghost invariant = { λ l. (l.number + length l.rest.now < 2 ^ 32) × (l.place + length l.rest.now < 2 ^ 64) };
+}
+
+/// The significant lines of the text, whose first line has the number `first`.
+pub fn significant(bytes: &[u8], first: u32) -> Lines<'_>
+    requires room { first + length bytes.now < 2 ^ 32 }
+    ensures lines { result ≡ significant_lines first bytes.now }
+{
+    Lines {
+        rest: bytes,
+        number: first,
+        place: 0,
+    }
+}
+
+impl<'a> Iterator for Lines<'a> {
+    type Item = Line<'a>;
+
+    ghost next_gives = { YieldsFirst (λ l. l) };
+
+    ghost remaining = { item_count (λ l. l) };
+
+    fn next(&mut self) -> Option<Line<'a>> {
+        while !self.rest.is_empty() {
+            let (line, rest) = self.rest.split_at(line_length(self.rest));
+            let number = self.number;
+            self.rest = rest;
+            self.number += 1;
+            self.place += line.len();
+            let text = without_end(line);
+            if begins_significant(text) {
+                return Some(Line {
+                    number,
+                    text,
+                    after: self.place,
+                });
+            }
+        }
+        None
+    }
+}
+
+/// How many lines the text has.
+pub fn count_lines(bytes: &[u8]) -> u32
+    requires room { length bytes.now < 2 ^ 32 }
+    ensures lines { result ≡ length (lines_of bytes.now) }
+{
+    let ended = bytes.iter().filter(|byte| **byte == b'\n').count() as u32;
+    match bytes.last() {
+        None | Some(b'\n') => ended,
+        Some(_) => ended + 1,
+    }
+}
+
+/// How long the first line is, its LF included.
+fn line_length(bytes: &[u8]) -> usize {
+    match memchr(b'\n', bytes) {
+        Some(place) => place + 1,
+        None => bytes.len(),
+    }
+}
+
+/// The line without its LF, and without one CR at its end.
+fn without_end(line: &[u8]) -> &[u8]
+    ensures text { result.now ≡ line_text line.now }
+{
+    let text = line.strip_suffix(b"\n").unwrap_or(line);
+    text.strip_suffix(b"\r").unwrap_or(text)
+}
+
+/// Whether a line of this text is significant: it has a token, and the first one begins no comment.
+fn begins_significant(text: &[u8]) -> bool
+    ensures significant { result ≡ is_significant (tokens_of text.now) }
+{
+    match Tokens::new(text).next() {
+        Some(token) => token.first() != Some(&b'#'),
+        None => false,
+    }
+}

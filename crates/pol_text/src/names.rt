@@ -1,0 +1,25 @@
+ghost use Rattle.std.specs.Prelude.{◌≡◌};
+ghost use Rattle.pol_defs.specs.Lines.{is_name, is_letter, is_name_byte};
+
+const MOST_BYTES: usize = 32;
+
+/// Whether the token is a name: an ASCII letter, and behind it ASCII letters, digits, `_` and `-`,
+/// at most 32 bytes in all.
+pub fn is_name(token: &[u8]) -> bool
+    ensures name { result ≡ is_name token.now }
+{
+    match token {
+        [] => false,
+        [first, rest @ ..] => {
+            first.is_ascii_alphabetic()
+                && rest.len() < MOST_BYTES
+                && rest.iter().all(|byte| is_name_byte(*byte))
+        }
+    }
+}
+
+fn is_name_byte(byte: u8) -> bool
+    ensures name { result ≡ is_name_byte byte }
+{
+    byte.is_ascii_alphanumeric() || byte == b'_' || byte == b'-'
+}

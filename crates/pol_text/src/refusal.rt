@@ -1,0 +1,43 @@
+ghost use Rattle.std.specs.Prelude.{◌≡◌, ◌++◌, OnOk, OnErr};
+ghost use Rattle.pol_defs.specs.Refusals.{refusal_line};
+ghost use Rattle.pol_defs.specs.Texts.{GrowsByFront};
+ghost use Rattle.pol_text.specs.Words.{refusal_named};
+
+use crate::{Word, put_number};
+use pol_base::{NoMemory, Values};
+
+/// Where and why a text is refused. Lines count from 1; line 0 stands for the whole text.
+#[derive(Clone, Copy, Debug, PartialEq, Eq)]
+pub struct Refusal {
+    pub line: u32,
+    pub word: Word,
+}
+
+/// Why a text was not read.
+#[derive(Clone, Copy, Debug, PartialEq, Eq)]
+pub enum ReadFail {
+    Refused(Refusal),
+    NoMemory,
+}
+
+impl From<NoMemory> for ReadFail {
+    ghost use Rattle.pol_text.specs.declared.refusal.ReadFail.TheVariants.{NoMemory as OutOfMemory};
+
+    ghost from_gives = { λ _ e. e ≡ OutOfMemory };
+
+    fn from(_error: NoMemory) -> ReadFail {
+        ReadFail::NoMemory
+    }
+}
+
+/// Appends `refused LINE WORD` and LF.
+pub fn put_refusal(out: &mut Values, refusal: Refusal) -> Result<(), NoMemory>
+    ensures ok { OnOk result (out.new ≡ out.old ++ refusal_line (refusal_named refusal)) }
+    ensures err { OnErr result (GrowsByFront out.old out.new (refusal_line (refusal_named refusal))) }
+{
+    out.append(b"refused ")?;
+    put_number(out, u64::from(refusal.line))?;
+    out.append(b" ")?;
+    out.append(refusal.word.text())?;
+    out.append(b"\n")
+}
