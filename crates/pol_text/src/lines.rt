@@ -14,7 +14,7 @@ pub struct Line<'a> {
     after: usize,
 }
 
-impl Model for Line<'_> {
+impl<'a> Model for Line<'a> {
     ghost Value = { LineView };
 
     ghost view = { λ l. record { number = l.number; tokens = tokens_of l.text.now; after = l.after } };
@@ -74,7 +74,7 @@ pub struct Lines<'a> {
     place: usize,
 }
 
-impl Model for Lines<'_> {
+impl<'a> Model for Lines<'a> {
     ghost Value = { List LineView };
 
     ghost view = { λ l. significant_among l.number l.place (lines_of l.rest.now) };

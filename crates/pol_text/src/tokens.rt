@@ -10,7 +10,7 @@ pub struct Tokens<'a> {
     rest: &'a [u8],
 }
 
-impl Model for Tokens<'_> {
+impl<'a> Model for Tokens<'a> {
     ghost Value = { List (List ℕ) };
 
     ghost view = { λ t. tokens_of t.rest.now };
