@@ -1,6 +1,6 @@
 -- The grammar of files: which texts are accepted, as which file, and the first refusal of every other text.
 use Rattle.std.specs.Prelude.{ℕ, ◌+◌, ◌-◌, ◌==◌, nat_lt, nat_le, Bool, not, ◌&&◌, List, [], ◌∷◌, length, drop, Option, Some, None, option_map, Result, Ok, Err, codes, if◌then◌else◌}
-use Rattle.pol_defs.specs.Relations.{RelationView, LanguageView, relation_of, is_same, has_name, has_row, with_relation, with_last_row}
+use Rattle.pol_defs.specs.Relations.{LanguageView, last_of, is_same, has_name, has_row, with_relation, with_last_row}
 use Rattle.pol_defs.specs.Lines.{LineView, lines_of, significant_lines, token_at, number_of, is_name}
 use Rattle.pol_defs.specs.Refusals.{Word, RefusalView}
 use Rattle.pol_defs.specs.Refusals.Word.{NoHeader, BadVersion, BadDomain, BadLine, BadNumber, BadName, RepeatedName, BadArity, ValueOutside, ShortTuple, LongTuple, TooManyRelations, TooManyTuples, Ended}
@@ -44,10 +44,6 @@ relation_line lang tokens = unless (length tokens == 3) BadLine (unless (is_name
 abbrev pub values_of : ℕ → List (List ℕ) → Result (List ℕ) Word
 values_of d [] = Ok []
 values_of d (t ∷ ts) = after_number (number_of t) BadNumber (λ v. unless (nat_lt v d) ValueOutside (after_values (values_of d ts) (λ vs. Ok (v ∷ vs))))
-
--- the last relation
-abbrev pub last_of : LanguageView → RelationView
-last_of lang = relation_of lang (length lang.relations - 1)
 
 -- a tuple that is there changes nothing
 unfoldable pub with_tuple : LanguageView → List ℕ → Result LanguageView Word

@@ -1,5 +1,5 @@
 -- Relations and constraint languages.
-use Rattle.std.specs.Prelude.{◌≡◌, ◌≢◌, ℕ, ◌≤◌, Bool, List, [], ◌∷◌, ◌++◌, length, map, nat_eq, All, AllPairs, slice_index_or, if◌then◌else◌}
+use Rattle.std.specs.Prelude.{◌≡◌, ◌≢◌, ℕ, zero, suc, ◌-◌, ◌≤◌, ◌↔◌, Bool, List, [], ◌∷◌, ◌++◌, length, take, drop, map, nat_eq, All, AllPairs, Contains, slice_index_or, if◌then◌else◌}
 use Rattle.std.specs.List.{list_any}
 use Rattle.std.specs.Cmp.Lexicographic.{pointwise, slice_cmp}
 use Rattle.std.specs.Ordering.{nat_cmp, is_lt, is_eq}
@@ -48,6 +48,10 @@ rows_of lang r = (relation_of lang r).rows
 abbrev pub name_of : LanguageView → ℕ → List ℕ
 name_of lang r = let named = slice_index_or lang.relations r ([], no_relation) in named.0
 
+-- the relation that was added last
+abbrev pub last_of : LanguageView → RelationView
+last_of lang = relation_of lang (length lang.relations - 1)
+
 abbrev pub names_of : LanguageView → List (List ℕ)
 names_of lang = map (λ e. e.0) lang.relations
 
@@ -85,3 +89,12 @@ with_row_at_last t (e ∷ f ∷ rest) = e ∷ with_row_at_last t (f ∷ rest)
 
 abbrev pub with_last_row : LanguageView → List ℕ → LanguageView
 with_last_row lang t = record { domain = lang.domain; relations = with_row_at_last t lang.relations }
+
+-- the tuples of n values that stand one behind another, so many of them
+abbrev pub tuples_in : ℕ → ℕ → List ℕ → List (List ℕ)
+tuples_in n zero values = []
+tuples_in n (suc count) values = take n values ∷ tuples_in n count (drop n values)
+
+-- the lists hold the same tuples
+abbrev pub SameMembers : List (List ℕ) → List (List ℕ) → Type 0
+SameMembers rows tuples = (t : List ℕ) → Contains rows t ↔ Contains tuples t

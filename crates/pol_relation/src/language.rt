@@ -1,0 +1,133 @@
+ghost use Rattle.std.specs.Prelude.{◌≡◌, ℕ, ◌<◌, ◌≤◌, ◌↔◌, length, Contains, IfOk, IfSome, IfNone, OnOk, OnErr, IsErrOf, [], ◌∷◌};
+ghost use Rattle.pol_defs.specs.Tuples.{IsTuple};
+ghost use Rattle.pol_defs.specs.Relations.{LanguageView, IsLanguage, names_of, name_of, relation_of, last_of, with_relation, with_last_row};
+
+use crate::Relation;
+use indexmap::IndexMap;
+use pol_base::{Domain, NoMemory};
+use std::alloc::Global;
+use std::marker::Model;
+
+/// Relations over one domain, each under a name of its own. They are numbered from 0 in the order
+/// in which they were added.
+#[derive(Drop)]
+pub struct Language {
+    domain: Domain,
+    relations: IndexMap<Vec<u8>, Relation>,
+}
+
+impl Model for Language {
+    ghost use Rattle.std.specs.Prelude.{◌≤◌, length};
+    ghost use Rattle.pol_defs.specs.Relations.{LanguageView, IsLanguage};
+    ghost use Rattle.pol_relation.specs.Named.{named_relations};
+
+    ghost Value = { LanguageView };
+
+    ghost view = { λ l. record { domain = l.domain; relations = named_relations l.relations.entries } };
+
+    ghost invariant = { λ l. IsLanguage (record { domain = l.domain; relations = named_relations l.relations.entries }) × (length l.relations.entries ≤ 4096) };
+}
+
+/// Why a relation was not added.
+#[derive(Clone, Copy, Debug, PartialEq, Eq)]
+pub enum AddFault {
+    Repeated,
+    NoMemory,
+}
+
+impl From<NoMemory> for AddFault {
+    ghost use Rattle.std.specs.Prelude.{◌≡◌};
+    ghost use Rattle.pol_relation.specs.declared.language.AddFault.TheVariants.{NoMemory as OutOfMemory};
+
+    ghost from_gives = { λ _ e. e ≡ OutOfMemory };
+
+    fn from(_error: NoMemory) -> AddFault {
+        AddFault::NoMemory
+    }
+}
+
+impl Language {
+    /// The language without relations. Takes no memory.
+    pub fn new(alloc: Global, d: Domain) -> Language
+        ensures empty { result ≡ record { domain = d; relations = [] } }
+    {
+        Language {
+            domain: d,
+            relations: IndexMap::new(alloc),
+        }
+    }
+
+    /// Adds a relation under a name that is not there, and answers its number. A relation that is
+    /// not added is dropped.
+    pub fn add(&mut self, name: &[u8], relation: Relation) -> Result<u32, AddFault>
+        requires domain { relation.domain ≡ self.old.domain }
+        requires room { length self.old.relations < 4096 }
+        ensures number { IfOk result (λ number. number ≡ length self.old.relations) }
+        ensures ok { OnOk result (self.new ≡ with_relation self.old name.now relation) }
+        ensures repeated { IsErrOf result AddFault.Repeated ↔ Contains (names_of self.old) name.now }
+        ensures err { OnErr result (self.new ≡ self.old) }
+    {
+        if self.relations.contains_key(name) {
+            return Err(AddFault::Repeated);
+        }
+        let number = self.len();
+        let name = Vec::from_slice(*self.relations.allocator(), name)?;
+        self.relations.insert(name, relation)?;
+        Ok(number)
+    }
+
+    /// Adds a tuple to the relation that was added last, where it changes nothing if it is a row.
+    pub fn insert(&mut self, tuple: &[u8]) -> Result<(), NoMemory>
+        requires some { 0 < length self.old.relations }
+        requires tuple { IsTuple (last_of self.old).domain (last_of self.old).arity tuple.now }
+        ensures ok { OnOk result (self.new ≡ with_last_row self.old tuple.now) }
+        ensures err { OnErr result (self.new ≡ self.old) }
+    {
+        match self.relations.last_mut() {
+            Some(relation) => relation.insert(tuple),
+            None => Ok(()),
+        }
+    }
+
+    /// The number of the relation that has the name.
+    pub fn find(&self, name: &[u8]) -> Option<u32>
+        ensures known { IfSome result (λ i. i < length self.now.relations) }
+        ensures found { IfSome result (λ i. name_of self.now i ≡ name.now) }
+        ensures none { IfNone result (Contains (names_of self.now) name.now → ⊥) }
+    {
+        self.relations.get_index_of(name).map(|place| place as u32)
+    }
+
+    /// How many relations there are.
+    pub fn len(&self) -> u32
+        ensures relations { result ≡ length self.now.relations }
+        ensures few { result ≤ 4096 }
+        ensures language { IsLanguage self.now }
+    {
+        self.relations.len() as u32
+    }
+
+    pub fn domain(&self) -> Domain
+        ensures domain { result ≡ self.now.domain }
+        ensures language { IsLanguage self.now }
+    {
+        self.domain
+    }
+
+    pub fn relation(&self, i: u32) -> &Relation
+        requires known { i < length self.now.relations }
+        ensures relation { result.now ≡ relation_of self.now i }
+    {
+        &self.relations[i as usize]
+    }
+
+    pub fn name(&self, i: u32) -> &[u8]
+        requires known { i < length self.now.relations }
+        ensures name { result.now ≡ name_of self.now i }
+    {
+        match self.relations.get_index(i as usize) {
+            Some((name, _)) => name.as_slice(),
+            None => &[],
+        }
+    }
+}
