@@ -71,9 +71,21 @@ impl Language {
             return Err(AddFault::Repeated);
         }
         let number = self.len();
+        self.push(name, relation)?;
+        Ok(number)
+    }
+
+    /// Adds a relation under a name that is not there.
+    fn push(&mut self, name: &[u8], relation: Relation) -> Result<(), NoMemory>
+        requires domain { relation.domain ≡ self.old.domain }
+        requires room { length self.old.relations < 4096 }
+        requires new { Contains (names_of self.old) name.now → ⊥ }
+        ensures ok { OnOk result (self.new ≡ with_relation self.old name.now relation) }
+        ensures err { OnErr result (self.new ≡ self.old) }
+    {
         let name = Vec::from_slice(*self.relations.allocator(), name)?;
         self.relations.insert(name, relation)?;
-        Ok(number)
+        Ok(())
     }
 
     /// Adds a tuple to the relation that was added last, where it changes nothing if it is a row.
