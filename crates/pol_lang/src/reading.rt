@@ -1,0 +1,94 @@
+ghost use Rattle.std.specs.Prelude.{◌≡◌, ◌+◌, ◌≤◌, ◌^◌, length, Some, None, OnOk, IfOk, IfErr};
+ghost use Rattle.pol_defs.specs.Lines.{lines_of};
+ghost use Rattle.pol_defs.specs.Grammar.{parse, extra, rest_of_file};
+ghost use Rattle.pol_lang.specs.Reading.{Reads};
+
+use crate::entries::{begins_with, domain_line, end_line, entry_line, header_line};
+use crate::file::{File, Rest};
+use pol_relation::Language;
+use pol_text::{Lines, ReadFail, Refusal, Word, count_lines, significant};
+use std::alloc::Global;
+
+/// The file that the text begins with, and where it ends there. What stands behind is not looked at.
+/// Every other text is refused with its first refusal: `NoHeader` where there is no significant line
+/// and `Ended` where the `end` line is missing, both at the number of lines plus 1.
+pub fn read_file(alloc: Global, bytes: &[u8]) -> Result<(File, Rest), ReadFail>
+    requires few { length bytes.now ≤ 2 ^ 28 }
+    ensures reads { Reads (λ read. record { file = read.0; place = read.1.place; line = read.1.line }) result (parse bytes.now) }
+    ensures place { IfOk result (λ read. read.1.place ≤ length bytes.now) }
+    ensures line { IfOk result (λ read. read.1.line ≤ length bytes.now + 1) }
+{
+    let mut lines = significant(bytes, 1);
+    let Some(header) = lines.next() else {
+        return Err(ended(bytes, Word::NoHeader));
+    };
+    if let Err(word) = header_line(&header) {
+        return Err(refused(header.number(), word));
+    }
+    let Some(second) = lines.next() else {
+        return Err(ended(bytes, Word::Ended));
+    };
+    match domain_line(&second) {
+        Ok(d) => rest_of_file(alloc, Language::new(alloc, d), bytes, lines),
+        Err(word) => Err(refused(second.number(), word)),
+    }
+}
+
+/// The relations and the `end` line, read into the language.
+fn rest_of_file(
+    alloc: Global,
+    mut language: Language,
+    bytes: &[u8],
+    mut lines: Lines<'_>,
+) -> Result<(File, Rest), ReadFail>
+    requires few { length bytes.now ≤ 2 ^ 28 }
+    ensures reads { Reads (λ read. record { file = read.0; place = read.1.place; line = read.1.line }) result (rest_of_file language (length (lines_of bytes.now) + 1) lines) }
+{
+    while let Some(line) = lines.next() {
+        if begins_with(&line, b"end") {
+            return match end_line(&line) {
+                Ok(_) => Ok((
+                    File::of(language),
+                    Rest {
+                        place: line.after(),
+                        line: line.next_number(),
+                    },
+                )),
+                Err(word) => Err(refused(line.number(), word)),
+            };
+        }
+        if let Err(fail) = entry_line(alloc, &mut language, &line) {
+            return Err(fail.at(line.number()));
+        }
+    }
+    Err(ended(bytes, Word::Ended))
+}
+
+fn refused(line: u32, word: Word) -> ReadFail {
+    ReadFail::Refused(Refusal { line, word })
+}
+
+/// The refusal of a text that ends too early.
+fn ended(bytes: &[u8], word: Word) -> ReadFail
+    requires few { length bytes.now ≤ 2 ^ 28 }
+{
+    refused(count_lines(bytes) + 1, word)
+}
+
+/// Refuses the text where a significant line stands from the place on. Takes no memory.
+pub fn nothing_more(bytes: &[u8], rest: Rest) -> Result<(), Refusal>
+    requires few { length bytes.now ≤ 2 ^ 28 }
+    requires place { rest.place ≤ length bytes.now }
+    requires line { rest.line ≤ 2 ^ 28 + 1 }
+    ensures nothing { OnOk result (extra bytes.now rest.place rest.line ≡ None) }
+    ensures more { IfErr result (λ refusal. extra bytes.now rest.place rest.line ≡ Some refusal.line) }
+    ensures word { IfErr result (λ refusal. refusal.word ≡ Word.AfterEnd) }
+{
+    match significant(&bytes[rest.place..], rest.line).next() {
+        Some(line) => Err(Refusal {
+            line: line.number(),
+            word: Word::AfterEnd,
+        }),
+        None => Ok(()),
+    }
+}
