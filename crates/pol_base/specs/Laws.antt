@@ -1,5 +1,5 @@
 -- What the cells of a table and the digits that write them have to do with each other.
-use Rattle.std.specs.Prelude.{◌≡◌, ℕ, ◌<◌, ◌≤◌, ◌^◌, List, length}
+use Rattle.std.specs.Prelude.{◌≡◌, ℕ, ◌<◌, ◌≤◌, ◌^◌, List}
 use Rattle.pol_defs.specs.Tuples.{IsTuple, cell_of, digits_of}
 
 -- the digits of a cell write it

@@ -14,6 +14,16 @@ pub enum ClassName {
     Maltsev,
 }
 
+const ALL: [ClassName; 7] = [
+    ClassName::Constant,
+    ClassName::Semilattice,
+    ClassName::SetFunction,
+    ClassName::Majority,
+    ClassName::Nu4,
+    ClassName::Affine,
+    ClassName::Maltsev,
+];
+
 impl ClassName {
     /// The word of the class in a report.
     pub fn word(self) -> &'static [u8]
@@ -36,15 +46,10 @@ pub fn class_of(word: &[u8]) -> Option<ClassName>
     ensures found { IfSome result (λ name. word.now ≡ class_word (class_named name)) }
     ensures none { IfNone result ((class : Class) → word.now ≢ class_word class) }
 {
-    [
-        ClassName::Constant,
-        ClassName::Semilattice,
-        ClassName::SetFunction,
-        ClassName::Majority,
-        ClassName::Nu4,
-        ClassName::Affine,
-        ClassName::Maltsev,
-    ]
-    .into_iter()
-    .find(|name| name.word() == word)
+    for name in ALL {
+        if name.word() == word {
+            return Some(name);
+        }
+    }
+    None
 }
