@@ -1,0 +1,14 @@
+use Rattle.std.proofs.Common.{◌-◌, ◌≤◌, length}
+use Rattle.std.specs.Io.KnownBytes.{Consumes}
+use Rattle.pol_outside.proofs.reading.read_all.Given as goal
+
+-- all that was taken is held, and is no more than the limit
+abbrev pub invariant-loop-taken : goal.invariant-loop-taken
+invariant-loop-taken g l = record {
+  held : Consumes (g.S.Source.left l.initial.source) (g.S.Source.left l.source) l.taken;
+  within : length l.taken ≤ l.limit;
+  later : g.S.Source.faults l.initial.source ≤ g.S.Source.faults l.source;
+}
+
+abbrev pub decreases-loop-taken : goal.decreases-loop-taken
+decreases-loop-taken g l = l.limit - length l.taken

@@ -1,0 +1,6 @@
+-- A reader or a writer beside the count of its errors.
+use Rattle.std.specs.Prelude.{ℕ}
+
+pub record Counted (S : Type 0) : Type 0 where
+  pub stream : S
+  pub faults : ℕ

@@ -1,0 +1,38 @@
+ghost use Rattle.std.specs.Prelude.{ℕ, ◌<◌, List, length, Option, IfOk};
+ghost use Rattle.std.specs.Io.{ReadsAtMost, WritesAtMost};
+ghost use Rattle.std.specs.Io.KnownBytes.{ReadConsumes, WriteAppends};
+ghost use Rattle.pol_outside.specs.Faults.{HasCause};
+
+/// A read or a write failed.
+#[derive(Clone, Copy, Debug, PartialEq, Eq)]
+pub struct Failed;
+
+/// Where bytes come from.
+pub trait Source {
+    // what is left, where the source tells it
+    ghost left: { Self → Option (List ℕ) };
+    // a count that never falls
+    ghost faults: { Self → ℕ };
+
+    /// Puts some of what is left at the front of the buffer and answers how many bytes those are.
+    /// That is 0 only at the end, or for an empty buffer.
+    fn read(&mut self, into: &mut [u8]) -> Result<usize, Failed>
+        ensures bound { ReadsAtMost result into.new }
+        ensures bytes { ReadConsumes (left self.old) (left self.new) result into.new }
+        ensures cause { HasCause (faults self.old) (faults self.new) result };
+}
+
+/// Where bytes go.
+pub trait Sink {
+    // what was written, where the sink tells it
+    ghost written: { Self → Option (List ℕ) };
+    // a count that never falls
+    ghost faults: { Self → ℕ };
+
+    /// Takes some bytes from the front of the piece and answers how many those are.
+    fn write(&mut self, piece: &[u8]) -> Result<usize, Failed>
+        ensures bound { WritesAtMost result piece.now }
+        ensures moves { IfOk result (λ n. 0 < length piece.now → 0 < n) }
+        ensures bytes { WriteAppends (written self.old) (written self.new) result piece.now }
+        ensures cause { HasCause (faults self.old) (faults self.new) result };
+}
