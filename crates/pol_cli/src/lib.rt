@@ -1,0 +1,12 @@
+//! The commands: from the words of the command line and the bytes of the input to the bytes of the
+//! output and the exit status.
+#![tactic(auto)]
+
+mod ended;
+mod line_of_class;
+mod report;
+mod top;
+
+pub use ended::Ended;
+pub use line_of_class::constant_line;
+pub use top::run;

@@ -1,0 +1,129 @@
+ghost use Rattle.std.specs.Prelude.{◌≡◌, ◌↔◌, ◌≤◌, ◌⊎◌, ◌^◌, length, IfOk, IfSome, IsSome, IsTrue};
+ghost use Rattle.std.specs.Io.KnownBytes.{IsAtEnd};
+ghost use Rattle.pol_outside.specs.Faults.{Rose};
+ghost use Rattle.pol_defs.specs.Due.{AsksReport, AreKnown, AskInput, IsDue};
+ghost use Rattle.pol_cli.specs.Endings.{ending_of};
+ghost use Rattle.pol_cli.specs.Runs.{texts_of, WritesDue, WritesFront, HasRead};
+
+use crate::Ended;
+use crate::report::report_text;
+use pol_base::{NoMemory, Values};
+use pol_lang::{nothing_more, read_file};
+use pol_outside::{Sink, Source, TakeFault, WriteFault, read_all, write_all};
+use pol_text::{ReadFail, Refusal, Word, put_refusal};
+use std::alloc::Global;
+
+/// The most bytes of an input that is accepted.
+const MOST_BYTES: u64 = 1 << 28;
+
+const USAGE: &[u8] = b"usage: polyanna report | polyanna check | polyanna gen N\n";
+
+/// Does what the words of the command line ask for. The words are those behind the program's name,
+/// and known where they are `report` alone.
+///
+/// The input is read to its end before anything is written.
+pub fn run<S: Source, O: Sink>(
+    alloc: Global,
+    words: &[String],
+    source: &mut S,
+    sink: &mut O,
+) -> Ended
+    // The answer and the appended text are due.
+    ensures due { IfSome (ending_of result) (WritesDue (texts_of words.now) (S.left source.old) (O.written sink.old) (O.written sink.new)) }
+
+    // What is left of the input.
+    ensures read { AskInput (texts_of words.now) → HasRead result (S.left source.old) (S.left source.new) }
+    ensures unread { ¬ AskInput (texts_of words.now) → source.new ≡ source.old }
+
+    // What cuts a run off, and what stands written then.
+    ensures read_fault { result ≡ Ended.ReadFault → AskInput (texts_of words.now) × Rose (S.faults source.old) (S.faults source.new) × (sink.new ≡ sink.old) }
+    ensures write_fault { result ≡ Ended.WriteFault → Rose (O.faults sink.old) (O.faults sink.new) × WritesFront (texts_of words.now) (S.left source.old) (O.written sink.old) (O.written sink.new) }
+    ensures no_memory { result ≡ Ended.NoMemory → AreKnown (texts_of words.now) × WritesFront (texts_of words.now) (S.left source.old) (O.written sink.old) (O.written sink.new) }
+    ensures no_memory_early { result ≡ Ended.NoMemory → AskInput (texts_of words.now) → IsAtEnd (S.left source.new) ⊎ (sink.new ≡ sink.old) }
+
+    // Where no count rose, the answer is due, or memory ran out.
+    ensures complete { ¬ Rose (S.faults source.old) (S.faults source.new) → ¬ Rose (O.faults sink.old) (O.faults sink.new) → IsSome (ending_of result) ⊎ (result ≡ Ended.NoMemory) }
+{
+    if !asks_report(words) {
+        return write(sink, USAGE, Ended::Usage);
+    }
+    match prepare(alloc, source) {
+        Ok((text, ended)) => write(sink, text.as_slice(), ended),
+        Err(Stop::ReadFault) => Ended::ReadFault,
+        Err(Stop::NoMemory) => Ended::NoMemory,
+    }
+}
+
+/// Whether the words are `report` alone.
+fn asks_report(words: &[String]) -> bool
+    ensures report { IsTrue result ↔ AsksReport (texts_of words.now) }
+{
+    match words {
+        [word] => word.as_bytes() == b"report".as_slice(),
+        _ => false,
+    }
+}
+
+/// Writes the text, and ends so where it was written.
+fn write<O: Sink>(sink: &mut O, text: &[u8], ended: Ended) -> Ended {
+    match write_all(sink, text) {
+        Ok(()) => ended,
+        Err(WriteFault) => Ended::WriteFault,
+    }
+}
+
+/// Why there is no text to write.
+#[derive(Clone, Copy, Debug, PartialEq, Eq)]
+enum Stop {
+    ReadFault,
+    NoMemory,
+}
+
+impl From<NoMemory> for Stop {
+    ghost use Rattle.std.specs.Prelude.{◌≡◌};
+    ghost use Rattle.pol_cli.specs.declared.top.Stop.TheVariants.{NoMemory as OutOfMemory};
+
+    ghost from_gives = { λ _ stop. stop ≡ OutOfMemory };
+
+    fn from(_error: NoMemory) -> Stop {
+        Stop::NoMemory
+    }
+}
+
+/// Reads the input to its end, and makes the text that is due for it.
+fn prepare<S: Source>(alloc: Global, source: &mut S) -> Result<(Values, Ended), Stop> {
+    match read_all(alloc, source, MOST_BYTES) {
+        Ok(bytes) => Ok(report(alloc, bytes.as_slice())?),
+        Err(TakeFault::TooLong) => Ok(refused(
+            alloc,
+            Refusal {
+                line: 0,
+                word: Word::TooLong,
+            },
+        )?),
+        Err(TakeFault::ReadFault) => Err(Stop::ReadFault),
+        Err(TakeFault::NoMemory) => Err(Stop::NoMemory),
+    }
+}
+
+/// What `report` writes for the input, and how it ends.
+fn report(alloc: Global, bytes: &[u8]) -> Result<(Values, Ended), NoMemory>
+    requires few { length bytes.now ≤ 2 ^ 28 }
+{
+    let (file, rest) = match read_file(alloc, bytes) {
+        Ok(read) => read,
+        Err(ReadFail::Refused(refusal)) => return refused(alloc, refusal),
+        Err(ReadFail::NoMemory) => return Err(NoMemory),
+    };
+    match nothing_more(bytes, rest) {
+        Ok(()) => Ok((report_text(alloc, &file)?, Ended::Done)),
+        Err(refusal) => refused(alloc, refusal),
+    }
+}
+
+/// The line of the refusal.
+fn refused(alloc: Global, refusal: Refusal) -> Result<(Values, Ended), NoMemory> {
+    let mut text = Values::new(alloc);
+    put_refusal(&mut text, refusal)?;
+    Ok((text, Ended::Refused(refusal)))
+}
