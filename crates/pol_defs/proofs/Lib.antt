@@ -1,2 +1,4 @@
-pub mod Examples
 pub mod CellLemmas
+pub mod LineLemmas
+pub mod GrammarLemmas
+pub mod Examples

@@ -8,5 +8,6 @@ pub mod Lines
 pub mod Refusals
 pub mod Files
 pub mod Grammar
+pub mod Spelling
 pub mod Reports
 pub mod Due

@@ -1,0 +1,215 @@
+-- The lines and tokens of a text, taken one by one from its front.
+use Rattle.std.proofs.Common.{◌≡◌, ◌≢◌, ℕ, zero, suc, inl, inr, cond, ◌+◌, ◌-◌, ◌*◌, ◌^◌, ◌<◌, ◌≤◌, Bool, true, false, not, eqb, List, [], ◌∷◌, ◌++◌, length, get_or, take, drop, map, refl, ap, sym, ◌∙◌, arith, rules}
+use Rattle.std.proofs.lemmas.Bool.{cases_Bool, eq-eqb, ne_eqb, eqb-true, leb-true, and_parts, not-true, ltb-true, ltb-false}
+use Rattle.std.proofs.lemmas.List.Recursion.{is_count_by}
+use Rattle.std.proofs.Math.Nat.{pow-suc, pow-zero}
+use Rattle.std.proofs.Common.{one-add, ltb, leb, ◌&&◌, Option, Some, None, unwrap_or, length-append}
+use Rattle.std.specs.Prelude.{count_by}
+use Rattle.std.specs.List.{position_or_len, list_all}
+use Rattle.pol_defs.specs.Tuples.{cell_of}
+use Rattle.pol_defs.specs.Lines.{is_digit, is_number, grown, lines_of, without_last, line_text, is_blank, begins_solid, tokens_of, is_significant, LineView, significant_among}
+
+-- ---- lines
+
+-- the first line ends with the first LF
+pub lines_of-first : (bs : List ℕ) (n : ℕ) → n < length bs → ((k : ℕ) → k < n → eqb (get_or bs k 0) 10 ≡ false) → eqb (get_or bs n 0) 10 ≡ true → lines_of bs ≡ take (suc n) bs ∷ lines_of (drop (suc n) bs)
+lines_of-first [] n small before here = absurd (omega arith)
+lines_of-first (b ∷ bs) zero small before here = rw here
+lines_of-first (b ∷ bs) (suc n) small before here =
+    let start : eqb b 10 ≡ false = before 0 (omega arith) in
+    let rest = lines_of-first bs n (omega arith) (λ k l. before (suc k) (omega arith)) here in
+    rw (start, rest)
+
+-- without an LF there is one line
+pub lines_of-whole : (bs : List ℕ) → 0 < length bs → ((k : ℕ) → k < length bs → eqb (get_or bs k 0) 10 ≡ false) → lines_of bs ≡ bs ∷ []
+lines_of-whole [] some none = absurd (omega arith)
+lines_of-whole (b ∷ []) some none =
+    let start : eqb b 10 ≡ false = none 0 (omega arith) in
+    rw start
+lines_of-whole (b ∷ c ∷ bs) some none =
+    let start : eqb b 10 ≡ false = none 0 (omega arith) in
+    let rest = lines_of-whole (c ∷ bs) (omega arith) (λ k l. none (suc k) (omega arith)) in
+    rw (start, rest)
+
+length-grown : (b : ℕ) (ps : List (List ℕ)) → 0 < length ps → length (grown b ps) ≡ length ps
+length-grown b [] some = absurd (omega arith)
+length-grown b (p ∷ ps) some = refl
+
+pieces_le : (b : ℕ) (ps : List (List ℕ)) (n : ℕ) → length ps ≤ n → length (grown b ps) ≤ suc n
+pieces_le b [] n few = omega arith
+pieces_le b (p ∷ ps) n few = omega arith
+
+some_piece : (b : ℕ) (ps : List (List ℕ)) → 0 < length (grown b ps)
+some_piece b [] = omega arith
+some_piece b (p ∷ ps) = omega arith
+
+some_line : (b : ℕ) (bs : List ℕ) → 0 < length (lines_of (b ∷ bs))
+some_line b bs = elim (cases_Bool (eqb b 10)) [ inl e ↦ rw e (omega arith) | inr e ↦ rw e (some_piece b (lines_of bs)) ]
+
+abbrev line_ends : List ℕ → ℕ
+line_ends [] = 0
+line_ends (b ∷ bs) = cond (eqb b 10) (1 + line_ends bs) (line_ends bs)
+
+line_ends-count_by : (bs : List ℕ) → line_ends bs ≡ count_by (λ b. eqb b 10) bs
+line_ends-count_by bs = is_count_by line_ends (λ b. eqb b 10) refl (λ _ _. refl) bs
+
+one_line_more : (b : ℕ) (bs : List ℕ) (n : ℕ) → 0 < length (lines_of bs) → length (lines_of bs) ≡ line_ends bs + n → length (lines_of (b ∷ bs)) ≡ line_ends (b ∷ bs) + n
+one_line_more b bs n some same = elim (cases_Bool (eqb b 10)) [ inl e ↦ rw e (omega arith) | inr e ↦ rw (e, length-grown b (lines_of bs) some) same ]
+
+ended_by : (bs : List ℕ) (n : ℕ) → length bs ≡ suc n → eqb (get_or bs n 0) 10 ≡ true → length (lines_of bs) ≡ line_ends bs + 0
+ended_by [] n long last = absurd (omega arith)
+ended_by (b ∷ []) zero long last = rw last
+ended_by (b ∷ []) (suc n) long last = absurd (omega arith)
+ended_by (b ∷ c ∷ bs) zero long last = absurd (omega arith)
+ended_by (b ∷ c ∷ bs) (suc n) long last = one_line_more b (c ∷ bs) 0 (some_line c bs) (ended_by (c ∷ bs) n (omega arith) last)
+
+open_after : (bs : List ℕ) (n : ℕ) → length bs ≡ suc n → eqb (get_or bs n 0) 10 ≡ false → length (lines_of bs) ≡ line_ends bs + 1
+open_after [] n long last = absurd (omega arith)
+open_after (b ∷ []) zero long last = rw last
+open_after (b ∷ []) (suc n) long last = absurd (omega arith)
+open_after (b ∷ c ∷ bs) zero long last = absurd (omega arith)
+open_after (b ∷ c ∷ bs) (suc n) long last = one_line_more b (c ∷ bs) 1 (some_line c bs) (open_after (c ∷ bs) n (omega arith) last)
+
+-- each line of a text that ends with LF has one
+pub length-lines_of-ended : (bs : List ℕ) (n : ℕ) → length bs ≡ suc n → get_or bs n 0 ≡ 10 → length (lines_of bs) ≡ count_by (λ b. eqb b 10) bs
+length-lines_of-ended bs n long last =
+    let counted = ended_by bs n long (eq-eqb _ _ last) in
+    let same = line_ends-count_by bs in
+    omega arith
+
+-- the last line of any other text has none
+pub length-lines_of-open : (bs : List ℕ) (n : ℕ) → length bs ≡ suc n → get_or bs n 0 ≢ 10 → length (lines_of bs) ≡ count_by (λ b. eqb b 10) bs + 1
+length-lines_of-open bs n long last =
+    let counted = open_after bs n long (ne_eqb _ _ last) in
+    let same = line_ends-count_by bs in
+    omega arith
+
+-- no line is empty
+pub length-lines_of-le : (bs : List ℕ) → length (lines_of bs) ≤ length bs
+length-lines_of-le [] = omega arith
+length-lines_of-le (b ∷ bs) =
+    let rest = length-lines_of-le bs in
+    elim (cases_Bool (eqb b 10)) [ inl e ↦ rw e (omega arith) | inr e ↦ rw e (pieces_le b (lines_of bs) (length bs) rest) ]
+
+-- ---- the end of a line
+
+pub without_last-push : (b : ℕ) (front : List ℕ) → without_last b (front ++ b ∷ []) ≡ front
+without_last-push b [] = rw (eq-eqb b b refl)
+without_last-push b (c ∷ []) = rw (eq-eqb b b refl)
+without_last-push b (c ∷ d ∷ front) =
+    let rest = without_last-push b (d ∷ front) in
+    ap (λ (xs : List ℕ). c ∷ xs) rest
+
+pub without_last-other : (b : ℕ) (bs : List ℕ) → ((front : List ℕ) → bs ≢ front ++ b ∷ []) → without_last b bs ≡ bs
+without_last-other b [] other = refl
+without_last-other b (c ∷ []) other = elim (cases_Bool (eqb c b)) [ inl e ↦ absurd (other [] (ap (λ (x : ℕ). x ∷ []) (eqb-true c b e))) | inr e ↦ rw e ]
+without_last-other b (c ∷ d ∷ bs) other =
+    let rest = without_last-other b (d ∷ bs) (λ front e. other (c ∷ front) (ap (λ (xs : List ℕ). c ∷ xs) e)) in
+    ap (λ (xs : List ℕ). c ∷ xs) rest
+
+-- ---- tokens
+
+abbrev pub is_solid : ℕ → Bool
+is_solid b = not (is_blank b)
+
+-- blanks at the front are passed over
+pub tokens_of-blanks : (bs : List ℕ) → tokens_of bs ≡ tokens_of (drop (position_or_len is_solid bs) bs)
+tokens_of-blanks [] = refl
+tokens_of-blanks (b ∷ bs) =
+    let rest = tokens_of-blanks bs in
+    elim (cases_Bool (is_blank b)) [ inl e ↦ rw (e, one-add) rest | inr e ↦ rw (e, e) refl ]
+
+-- behind the blanks at the front stands a token or nothing
+pub begins_solid-blanks : (bs : List ℕ) → position_or_len is_solid bs < length bs → begins_solid (drop (position_or_len is_solid bs) bs) ≡ true
+begins_solid-blanks [] some = absurd (omega arith)
+begins_solid-blanks (b ∷ bs) some =
+    elim (cases_Bool (is_blank b)) [
+      | inl e ↦
+          let further = rw e at some in
+          let inside : position_or_len is_solid bs < length bs = omega (arith, further) in
+          let rest = begins_solid-blanks bs inside in
+          rw (e, one-add) rest
+      | inr e ↦ rw (e, e) refl
+    ]
+
+no_token : (bs : List ℕ) → begins_solid bs ≡ false → position_or_len is_blank bs ≡ 0
+no_token [] blank = refl
+no_token (b ∷ bs) blank = rw blank refl
+
+-- the token at the front, and the ones behind it
+pub tokens_of-first : (bs : List ℕ) → begins_solid bs ≡ true → tokens_of bs ≡ take (position_or_len is_blank bs) bs ∷ tokens_of (drop (position_or_len is_blank bs) bs)
+tokens_of-first [] solid = absurd (cc)
+tokens_of-first (b ∷ bs) solid =
+    let start : is_blank b ≡ false = not-true (is_blank b) solid in
+    elim (cases_Bool (begins_solid bs)) [
+      | inl e ↦ let rest = tokens_of-first bs e in rw (start, e, one-add, rest)
+      | inr e ↦ let none = no_token bs e in rw (start, e, none)
+    ]
+
+-- no token is empty
+pub length-tokens_of-le : (bs : List ℕ) → length (tokens_of bs) ≤ length bs
+length-tokens_of-le [] = omega arith
+length-tokens_of-le (b ∷ bs) =
+    let rest = length-tokens_of-le bs in
+    elim (cases_Bool (is_blank b)) [
+      | inl e ↦ rw e (omega arith)
+      | inr e ↦ elim (cases_Bool (begins_solid bs)) [ inl f ↦ rw (e, f) (pieces_le b (tokens_of bs) (length bs) rest) | inr f ↦ rw (e, f) (omega arith) ]
+    ]
+
+pub position_or_len-le : (test : ℕ → Bool) (bs : List ℕ) → position_or_len test bs ≤ length bs
+position_or_len-le test [] = omega arith
+position_or_len-le test (b ∷ bs) =
+    let rest = position_or_len-le test bs in
+    elim (cases_Bool (test b)) [ inl e ↦ rw e (omega arith) | inr e ↦ rw e (omega arith) ]
+
+-- the first of all, or all where none passes
+pub position_or_len-found : (test : ℕ → Bool) (bs : List ℕ) (r : Option ℕ) → r ≡ cond (ltb (position_or_len test bs) (length bs)) (Some (position_or_len test bs)) None → unwrap_or r (length bs) ≡ position_or_len test bs
+position_or_len-found test bs r found =
+    let within = position_or_len-le test bs in
+    elim (cases_Bool (ltb (position_or_len test bs) (length bs))) [
+      | inl e ↦ let is : r ≡ Some (position_or_len test bs) = rw e at found in rw is refl
+      | inr e ↦ let is : r ≡ None = rw e at found in rw is (omega (arith, ltb-false _ _ e))
+    ]
+
+-- ---- significant lines
+
+pub significant_among-passed : (number place : ℕ) (bs line rest : List ℕ) → lines_of bs ≡ line ∷ lines_of rest → is_significant (tokens_of (line_text line)) ≡ false → significant_among number place (lines_of bs) ≡ significant_among (number + 1) (place + length line) (lines_of rest)
+significant_among-passed number place bs line rest first passed = rw (first, passed)
+
+pub significant_among-found : (number place : ℕ) (bs line rest : List ℕ) → lines_of bs ≡ line ∷ lines_of rest → is_significant (tokens_of (line_text line)) ≡ true → significant_among number place (lines_of bs) ≡ record { number = number; tokens = tokens_of (line_text line); after = place + length line } ∷ significant_among (number + 1) (place + length line) (lines_of rest)
+significant_among-found number place bs line rest first found = rw (first, found)
+
+-- ---- numbers
+
+-- a number has at most nine digits
+pub IsNumber-short : (bs : List ℕ) → is_number bs ≡ true → length bs ≤ 9
+IsNumber-short bs number =
+    let parts = and_parts (leb 1 (length bs) && leb (length bs) 9) (list_all is_digit bs) number in
+    let lengths = and_parts (leb 1 (length bs)) (leb (length bs) 9) parts.0 in
+    leb-true (length bs) 9 lengths.1
+
+-- a byte of a number, taken from 48, is a digit below ten
+pub record IsDigit (b : ℕ) : Type 0 where
+  pub low : 48 ≤ b
+  pub high : b ≤ 57
+
+digit_at : (bs : List ℕ) (i : ℕ) → list_all is_digit bs ≡ true → i < length bs → is_digit (get_or bs i 0) ≡ true
+digit_at [] i digits small = absurd (omega arith)
+digit_at (b ∷ bs) zero digits small = (and_parts (is_digit b) (list_all is_digit bs) digits).0
+digit_at (b ∷ bs) (suc i) digits small = digit_at bs i (and_parts (is_digit b) (list_all is_digit bs) digits).1 (omega arith)
+
+pub IsNumber-digit : (bs : List ℕ) (i : ℕ) → is_number bs ≡ true → i < length bs → IsDigit (get_or bs i 0)
+IsNumber-digit bs i number small =
+    let parts = and_parts (leb 1 (length bs) && leb (length bs) 9) (list_all is_digit bs) number in
+    let digit = and_parts (leb 48 (get_or bs i 0)) (leb (get_or bs i 0) 57) (digit_at bs i parts.1 small) in
+    record { low = leb-true 48 (get_or bs i 0) digit.0; high = leb-true (get_or bs i 0) 57 digit.1 }
+
+one_more : (y power next cell grown d x : ℕ) → next ≡ power * d → grown ≡ cell * d + x → y * next + grown ≡ (y * power + cell) * d + x
+one_more y power next cell grown d x powers cells = grind arith
+
+-- one digit more
+pub cell_of-one_more : (d : ℕ) (xs : List ℕ) (x : ℕ) → cell_of d (xs ++ x ∷ []) ≡ cell_of d xs * d + x
+cell_of-one_more d [] x = rw (pow-zero d) (omega arith)
+cell_of-one_more d (y ∷ xs) x =
+    let long : length (xs ++ x ∷ []) ≡ suc (length xs) = omega (arith, length-append xs (x ∷ [])) in
+    rw long (one_more y (d ^ length xs) (d ^ suc (length xs)) (cell_of d xs) (cell_of d (xs ++ x ∷ [])) d x (pow-suc d (length xs)) (cell_of-one_more d xs x))

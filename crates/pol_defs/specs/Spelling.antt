@@ -1,0 +1,51 @@
+-- How a file is spelled: the tokens of the lines that say it, in a reader's terms.
+use Rattle.std.specs.Prelude.{◌≡◌, ℕ, ◌≤◌, true, List, [], ◌∷◌, ◌++◌, length, map, flat_map, Some, None, Option, codes, All, Any}
+use Rattle.std.specs.List.{AllZip}
+use Rattle.pol_defs.specs.Relations.{RelationView, IsLanguage}
+use Rattle.pol_defs.specs.Lines.{LineView, number_of, is_name}
+use Rattle.pol_defs.specs.Files.{FileView, Parsed}
+
+-- the tokens write the values, one each
+abbrev pub Write : List (List ℕ) → List ℕ → Type 0
+Write tokens values = map number_of tokens ≡ map (λ v. Some v) values
+
+-- the lines of one relation: a name, an arity, and the values of each tuple line
+pub record Block : Type 0 where
+  pub name : List ℕ
+  pub arity : List ℕ
+  pub tuples : List (List (List ℕ))
+
+-- the tokens of each line of the block
+abbrev pub block_lines : Block → List (List (List ℕ))
+block_lines block = (codes "relation" ∷ block.name ∷ block.arity ∷ []) ∷ map (λ values. codes "tuple" ∷ values) block.tuples
+
+-- the block says the relation under its name: each tuple line writes a row, and each row is written
+pub record Spells (block : Block) (named : List ℕ × RelationView) : Type 0 where
+  pub is_name : is_name block.name ≡ true
+  pub same_name : block.name ≡ named.0
+  pub arity_is : number_of block.arity ≡ Some named.1.arity
+  pub rows_only : All (λ tokens. Any (Write tokens) named.1.rows) block.tuples
+  pub each_row : All (λ row. Any (λ tokens. Write tokens row) block.tuples) named.1.rows
+
+-- within the limits on relations and tuples
+pub record IsWithinLimits (file : FileView) : Type 0 where
+  pub is_language : IsLanguage file.language
+  pub few_relations : length file.language.relations ≤ 32
+  pub few_tuples : All (λ named. length named.1.rows ≤ 128) file.language.relations
+
+-- the first of the lines, up to the one behind which the file ends, say the file
+pub record IsSpelled (lines : List LineView) (found : Parsed) : Type 0 where
+  pub version : List ℕ
+  pub domain : List ℕ
+  pub blocks : List Block
+  pub front : List LineView
+  pub last : LineView
+  pub rest : List LineView
+  pub version_is : number_of version ≡ Some 1
+  pub domain_is : number_of domain ≡ Some found.file.language.domain
+  pub relations_are : AllZip Spells blocks found.file.language.relations
+  pub within : IsWithinLimits found.file
+  pub lines_are : lines ≡ front ++ last ∷ rest
+  pub front_is : map (λ l. l.tokens) front ≡ (codes "polyanna" ∷ version ∷ []) ∷ (codes "domain" ∷ domain ∷ []) ∷ flat_map block_lines blocks
+  pub last_is : last.tokens ≡ codes "end" ∷ []
+  pub place_is : found.place ≡ last.after
