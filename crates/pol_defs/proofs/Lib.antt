@@ -1,4 +1,9 @@
 pub mod CellLemmas
+pub mod OrderLemmas
+pub mod RelationLemmas
+pub mod ConstantLemmas
 pub mod LineLemmas
 pub mod GrammarLemmas
+pub mod SpellingLemmas
+pub mod ReportLemmas
 pub mod Examples

@@ -1,0 +1,1 @@
+-- What a constant operation preserves, and the line of its class.

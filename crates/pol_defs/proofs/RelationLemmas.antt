@@ -1,0 +1,367 @@
+-- Rows and relations: what `with_row` and `ascending_rows` keep and add, how many rows there can be, and what a language keeps.
+use Rattle.std.proofs.Common.{◌≡◌, ◌≢◌, ℕ, zero, suc, ◌+◌, ◌-◌, ◌*◌, ◌^◌, ◌<◌, ◌≤◌, ◌⊎◌, Bool, true, false, ◌||◌, inl, inr, List, [], ◌∷◌, ◌++◌, length, map, take, drop, get_or, Ordering, Less, Equal, Greater, All, AllPairs, Contains, refl, sym, ap, ◌∙◌, subst, arith, add-one}
+use Rattle.std.specs.Bool.{Decides}
+use Rattle.std.specs.List.{list_any, insert, HoldsAt}
+use Rattle.std.specs.Cmp.Lexicographic.{slice_cmp}
+use Rattle.std.specs.Ordering.{nat_cmp, is_lt, is_eq}
+use Rattle.std.proofs.Math.Nat.{pow-le-pow_left, pow-le-pow_right}
+use Rattle.std.proofs.lemmas.Bool.Decides.{Decides-eqb, Decides-by_or, Decides-at}
+use Rattle.std.proofs.lemmas.Slice.Eq.{slice_eq-Decides}
+use Rattle.std.proofs.lemmas.List.{map_push, get_or-map, length-map, length_push}
+use Rattle.std.proofs.lemmas.List.Elements.{All-nil, All-cons, All-head, All-tail, All-push, All-weaker, All-contains, Decides-contains, Contains-get_or, All-contains_itself}
+use Rattle.std.proofs.lemmas.List.Kept.{AllPairs-cons}
+use Rattle.std.proofs.lemmas.List.Quantifiers.{all_pairs_push}
+use Rattle.pol_defs.specs.Tuples.{IsDomain, IsTuple, IsBefore, cell_of}
+use Rattle.pol_defs.specs.Relations.{RelationView, IsRelation, LanguageView, IsRelationOver, IsLanguage, no_relation, relation_of, names_of, is_same, has_name, has_row, with_row, ascending_rows, with_relation, with_row_at_last, with_last_row}
+use Rattle.pol_defs.proofs.CellLemmas.{cell_of-before, cell_of-IsTuple}
+use Rattle.pol_defs.proofs.OrderLemmas.{Order, order_of, slice_cmp-before, slice_cmp-same, slice_cmp-after, IsBefore-trans, IsBefore-irrefl, IsBefore-asym}
+use Rattle.pol_defs.proofs.OrderLemmas.Order.{Before, Same, After}
+
+-- members of a list with a first element
+
+pub Contains-here : {X : Type 0} (x : X) (xs : List X) → Contains (x ∷ xs) x
+Contains-here x xs = (0, omega arith, refl)
+
+pub Contains-there : {X : Type 0} (y x : X) (xs : List X) → Contains xs x → Contains (y ∷ xs) x
+Contains-there y x xs inside = (suc inside.0, omega arith, inside.2)
+
+member_at : {X : Type 0} (y x : X) (xs : List X) (k : ℕ) → k < suc (length xs) → get_or (y ∷ xs) k x ≡ x → (y ≡ x) ⊎ Contains xs x
+member_at y x xs zero within found = inl found
+member_at y x xs (suc k) within found = inr (k, omega arith, found)
+
+pub Contains-cons_cases : {X : Type 0} (y x : X) (xs : List X) → Contains (y ∷ xs) x → (y ≡ x) ⊎ Contains xs x
+Contains-cons_cases y x xs inside = member_at y x xs inside.0 inside.1 inside.2
+
+pub Contains-nil : {X : Type 0} (x : X) → Contains [] x → ⊥
+Contains-nil x inside = omega arith
+
+pub AllPairs-nil : {X : Type 0} (R : X → X → Type 0) → AllPairs R []
+AllPairs-nil R = λ i j d less inside. absurd (omega arith)
+
+pub AllPairs-head : {X : Type 0} (R : X → X → Type 0) (x : X) (xs : List X) → AllPairs R (x ∷ xs) → All (R x) xs
+AllPairs-head R x xs pairs = λ k d inside. pairs 0 (suc k) d (omega arith) (omega arith)
+
+pub AllPairs-tail : {X : Type 0} (R : X → X → Type 0) (x : X) (xs : List X) → AllPairs R (x ∷ xs) → AllPairs R xs
+AllPairs-tail R x xs pairs = λ i j d less inside. pairs (suc i) (suc j) d (omega arith) (omega arith)
+
+-- the tests
+
+pub is_same-decides : (xs ys : List ℕ) → Decides (is_same xs ys) (xs ≡ ys)
+is_same-decides xs ys = slice_eq-Decides Decides-eqb xs ys (is_same xs ys) refl
+
+pub has_row-decides : (rows : List (List ℕ)) (t : List ℕ) → Decides (has_row rows t) (Contains rows t)
+has_row-decides rows t =
+    Decides-contains rows t (has_row rows t) (Decides-by_or (λ row. is_same row t) (λ row. row ≡ t) (λ some. has_row some t) (λ row. is_same-decides row t) refl (λ _ _. refl) rows)
+
+list_any-names : (name : List ℕ) (relations : List (List ℕ × RelationView)) → list_any (λ e. is_same e.0 name) relations ≡ has_row (map (λ e. e.0) relations) name
+list_any-names name [] = refl
+list_any-names name (e ∷ rest) = ap (λ b. is_same e.0 name || b) (list_any-names name rest)
+
+pub has_name-decides : (lang : LanguageView) (name : List ℕ) → Decides (has_name lang name) (Contains (names_of lang) name)
+has_name-decides lang name = Decides-at (has_name lang name) (has_row (names_of lang) name) (list_any-names name lang.relations) (has_row-decides (names_of lang) name)
+
+-- one step of `with_row`
+
+pub with_row-before : (t row : List ℕ) (rows : List (List ℕ)) → IsBefore row t → with_row t (row ∷ rows) ≡ row ∷ with_row t rows
+with_row-before t row rows before = rw (slice_cmp-before row t before) refl
+
+pub with_row-same : (t row : List ℕ) (rows : List (List ℕ)) → row ≡ t → with_row t (row ∷ rows) ≡ row ∷ rows
+with_row-same t row rows same = rw (slice_cmp-same row t same) refl
+
+pub with_row-after : (t row : List ℕ) (rows : List (List ℕ)) → IsBefore t row → with_row t (row ∷ rows) ≡ t ∷ row ∷ rows
+with_row-after t row rows after = rw (slice_cmp-after row t after) refl
+
+-- lists of one length
+abbrev pub AreLong : ℕ → List (List ℕ) → Type 0
+AreLong n rows = All (λ row. length row ≡ n) rows
+
+pub AreLong-tuples : (d n : ℕ) (rows : List (List ℕ)) → All (IsTuple d n) rows → AreLong n rows
+AreLong-tuples d n rows tuples = λ k fallback inside. (tuples k fallback inside).long
+
+-- what holds of the tuple and of each row holds of each row with the tuple
+pub All-with_row : (P : List ℕ → Type 0) (n : ℕ) (t : List ℕ) (rows : List (List ℕ)) → length t ≡ n → AreLong n rows → P t → All P rows → All P (with_row t rows)
+All-with_row P n t [] long rows-long holds all = All-cons P t [] holds (All-nil P)
+All-with_row P n t (row ∷ rows) long rows-long holds all =
+    let rest = All-with_row P n t rows long (All-tail (λ r. length r ≡ n) row rows rows-long) holds (All-tail P row rows all) in
+    elim (order_of row t (All-head (λ r. length r ≡ n) row rows rows-long ∙ sym long)) [
+      Before before ↦ rw (with_row-before t row rows before) (All-cons P row (with_row t rows) (All-head P row rows all) rest)
+    | Same same ↦ rw (with_row-same t row rows same) all
+    | After after ↦ rw (with_row-after t row rows after) (All-cons P t (row ∷ rows) holds all)
+    ]
+
+pub Contains-with_row : (n : ℕ) (t : List ℕ) (rows : List (List ℕ)) → length t ≡ n → AreLong n rows → Contains (with_row t rows) t
+Contains-with_row n t [] long rows-long = Contains-here t []
+Contains-with_row n t (row ∷ rows) long rows-long =
+    let rest = Contains-with_row n t rows long (All-tail (λ r. length r ≡ n) row rows rows-long) in
+    elim (order_of row t (All-head (λ r. length r ≡ n) row rows rows-long ∙ sym long)) [
+      Before before ↦ rw (with_row-before t row rows before) (Contains-there row t (with_row t rows) rest)
+    | Same same ↦ rw (with_row-same t row rows same) (0, omega arith, same)
+    | After after ↦ rw (with_row-after t row rows after) (Contains-here t (row ∷ rows))
+    ]
+
+pub Contains-with_row_old : (n : ℕ) (t u : List ℕ) (rows : List (List ℕ)) → length t ≡ n → AreLong n rows → Contains rows u → Contains (with_row t rows) u
+Contains-with_row_old n t u [] long rows-long inside = absurd (Contains-nil u inside)
+Contains-with_row_old n t u (row ∷ rows) long rows-long inside =
+    let rest = Contains-with_row_old n t u rows long (All-tail (λ r. length r ≡ n) row rows rows-long) in
+    elim (order_of row t (All-head (λ r. length r ≡ n) row rows rows-long ∙ sym long)) [
+      Before before ↦ rw (with_row-before t row rows before) (elim (Contains-cons_cases row u rows inside) [
+          inl first ↦ (0, omega arith, first)
+        | inr behind ↦ Contains-there row u (with_row t rows) (rest behind)
+        ])
+    | Same same ↦ rw (with_row-same t row rows same) inside
+    | After after ↦ rw (with_row-after t row rows after) (Contains-there t u (row ∷ rows) inside)
+    ]
+
+-- a row with the tuple is the tuple, or one of the old rows
+pub with_row-cases : (n : ℕ) (t u : List ℕ) (rows : List (List ℕ)) → length t ≡ n → AreLong n rows → Contains (with_row t rows) u → (u ≡ t) ⊎ Contains rows u
+with_row-cases n t u rows long rows-long inside =
+    All-contains (λ v. (v ≡ t) ⊎ Contains rows v) (with_row t rows) u
+    (All-with_row (λ v. (v ≡ t) ⊎ Contains rows v) n t rows long rows-long (inl refl) (λ k d within. inr (Contains-get_or rows k d within))) inside
+
+pub ascending-with_row : (n : ℕ) (t : List ℕ) (rows : List (List ℕ)) → length t ≡ n → AreLong n rows → AllPairs IsBefore rows → AllPairs IsBefore (with_row t rows)
+ascending-with_row n t [] long rows-long ascending = AllPairs-cons IsBefore t [] (All-nil (IsBefore t)) (AllPairs-nil IsBefore)
+ascending-with_row n t (row ∷ rows) long rows-long ascending =
+    let tail-long = All-tail (λ r. length r ≡ n) row rows rows-long in
+    let later = AllPairs-head IsBefore row rows ascending in
+    let rest = ascending-with_row n t rows long tail-long (AllPairs-tail IsBefore row rows ascending) in
+    elim (order_of row t (All-head (λ r. length r ≡ n) row rows rows-long ∙ sym long)) [
+      Before before ↦ rw (with_row-before t row rows before) (AllPairs-cons IsBefore row (with_row t rows) (All-with_row (IsBefore row) n t rows long tail-long before later) rest)
+    | Same same ↦ rw (with_row-same t row rows same) ascending
+    | After after ↦ rw (with_row-after t row rows after) (AllPairs-cons IsBefore t (row ∷ rows)
+        (All-cons (IsBefore t) row rows after (All-weaker (IsBefore row) (IsBefore t) (λ u behind. IsBefore-trans t row u after behind) rows later)) ascending)
+    ]
+
+-- a tuple that is there changes nothing
+pub with_row-there : (n : ℕ) (t : List ℕ) (rows : List (List ℕ)) → length t ≡ n → AreLong n rows → AllPairs IsBefore rows → Contains rows t → with_row t rows ≡ rows
+with_row-there n t [] long rows-long ascending inside = absurd (Contains-nil t inside)
+with_row-there n t (row ∷ rows) long rows-long ascending inside =
+    let rest = with_row-there n t rows long (All-tail (λ r. length r ≡ n) row rows rows-long) (AllPairs-tail IsBefore row rows ascending) in
+    elim (Contains-cons_cases row t rows inside) [
+      inl first ↦ with_row-same t row rows first
+    | inr behind ↦ with_row-before t row rows (All-contains (IsBefore row) rows t (AllPairs-head IsBefore row rows ascending) behind) ∙ ap (λ some. row ∷ some) (rest behind)
+    ]
+
+-- a new tuple is one row more
+pub length-with_row_new : (n : ℕ) (t : List ℕ) (rows : List (List ℕ)) → length t ≡ n → AreLong n rows → (Contains rows t → ⊥) → length (with_row t rows) ≡ length rows + 1
+length-with_row_new n t [] long rows-long new = refl
+length-with_row_new n t (row ∷ rows) long rows-long new =
+    let rest = length-with_row_new n t rows long (All-tail (λ r. length r ≡ n) row rows rows-long) (λ inside. new (Contains-there row t rows inside)) in
+    elim (order_of row t (All-head (λ r. length r ≡ n) row rows rows-long ∙ sym long)) [
+      Before before ↦ rw (with_row-before t row rows before) (omega arith)
+    | Same same ↦ absurd (new (0, omega arith, same))
+    | After after ↦ rw (with_row-after t row rows after) (omega arith)
+    ]
+
+-- the tuple goes between the rows before it and those after it
+pub with_row-insert : (t : List ℕ) (rows : List (List ℕ)) (i : ℕ) → i ≤ length rows → ((k : ℕ) (d : List ℕ) → k < i → IsBefore (get_or rows k d) t) → ((k : ℕ) (d : List ℕ) → i ≤ k → k < length rows → IsBefore t (get_or rows k d)) → with_row t rows ≡ insert rows i t
+with_row-insert t [] zero within before after = refl
+with_row-insert t [] (suc i) within before after = absurd (omega arith)
+with_row-insert t (row ∷ rows) zero within before after = with_row-after t row rows (after 0 row (omega arith) (omega arith))
+with_row-insert t (row ∷ rows) (suc i) within before after =
+    let rest = with_row-insert t rows i (omega arith) (λ k d less. before (suc k) d (omega arith)) (λ k d more inside. after (suc k) d (omega arith) (omega arith)) in
+    with_row-before t row rows (before 0 row (omega arith)) ∙ ap (λ some. row ∷ some) rest
+
+-- the tuples in ascending order
+
+pub All-ascending_rows : (P : List ℕ → Type 0) (n : ℕ) (tuples : List (List ℕ)) → AreLong n tuples → All P tuples → All P (ascending_rows tuples)
+All-ascending_rows P n [] long all = All-nil P
+All-ascending_rows P n (t ∷ ts) long all =
+    let tail-long = All-tail (λ r. length r ≡ n) t ts long in
+    All-with_row P n t (ascending_rows ts) (All-head (λ r. length r ≡ n) t ts long) (All-ascending_rows (λ r. length r ≡ n) n ts tail-long tail-long) (All-head P t ts all) (All-ascending_rows P n ts tail-long (All-tail P t ts all))
+
+pub AreLong-ascending_rows : (n : ℕ) (tuples : List (List ℕ)) → AreLong n tuples → AreLong n (ascending_rows tuples)
+AreLong-ascending_rows n tuples long = All-ascending_rows (λ r. length r ≡ n) n tuples long long
+
+pub ascending-ascending_rows : (n : ℕ) (tuples : List (List ℕ)) → AreLong n tuples → AllPairs IsBefore (ascending_rows tuples)
+ascending-ascending_rows n [] long = AllPairs-nil IsBefore
+ascending-ascending_rows n (t ∷ ts) long =
+    let tail-long = All-tail (λ r. length r ≡ n) t ts long in
+    ascending-with_row n t (ascending_rows ts) (All-head (λ r. length r ≡ n) t ts long) (AreLong-ascending_rows n ts tail-long) (ascending-ascending_rows n ts tail-long)
+
+pub Contains-ascending_rows : (n : ℕ) (u : List ℕ) (tuples : List (List ℕ)) → AreLong n tuples → Contains tuples u → Contains (ascending_rows tuples) u
+Contains-ascending_rows n u [] long inside = inside
+Contains-ascending_rows n u (t ∷ ts) long inside =
+    let tail-long = All-tail (λ r. length r ≡ n) t ts long in
+    let t-long = All-head (λ r. length r ≡ n) t ts long in
+    let rest = Contains-ascending_rows n u ts tail-long in
+    let rows-long = AreLong-ascending_rows n ts tail-long in
+    elim (Contains-cons_cases t u ts inside) [
+      inl first ↦ subst (λ v. Contains (with_row t (ascending_rows ts)) v) first (Contains-with_row n t (ascending_rows ts) t-long rows-long)
+    | inr behind ↦ Contains-with_row_old n t u (ascending_rows ts) t-long rows-long (rest behind)
+    ]
+
+pub Contains-from_ascending_rows : (n : ℕ) (u : List ℕ) (tuples : List (List ℕ)) → AreLong n tuples → Contains (ascending_rows tuples) u → Contains tuples u
+Contains-from_ascending_rows n u tuples long inside =
+    All-contains (Contains tuples) (ascending_rows tuples) u (All-ascending_rows (Contains tuples) n tuples long (All-contains_itself tuples)) inside
+
+with_row-first : (row : List ℕ) (rows : List (List ℕ)) → All (IsBefore row) rows → with_row row rows ≡ row ∷ rows
+with_row-first row [] later = refl
+with_row-first row (next ∷ rows) later = with_row-after row next rows (All-head (IsBefore row) next rows later)
+
+-- rows that ascend are their own ascending rows
+pub ascending_rows-ascending : (rows : List (List ℕ)) → AllPairs IsBefore rows → ascending_rows rows ≡ rows
+ascending_rows-ascending [] ascending = refl
+ascending_rows-ascending (row ∷ rows) ascending =
+    ap (with_row row) (ascending_rows-ascending rows (AllPairs-tail IsBefore row rows ascending)) ∙ with_row-first row rows (AllPairs-head IsBefore row rows ascending)
+
+-- few rows
+
+-- the row at a place has a cell of at least the place
+pub place-le-cell : (d n : ℕ) (rows : List (List ℕ)) → All (IsTuple d n) rows → AllPairs IsBefore rows → (i : ℕ) → i < length rows → i ≤ cell_of d (get_or rows i [])
+place-le-cell d n rows tuples ascending zero within = omega arith
+place-le-cell d n rows tuples ascending (suc i) within =
+    let rest = place-le-cell d n rows tuples ascending i (omega arith) in
+    let one = tuples i [] (omega arith) in
+    let other = tuples (suc i) [] within in
+    let step = cell_of-before d (get_or rows i []) (get_or rows (suc i) []) (one.long ∙ sym other.long) one.below other.below (ascending i (suc i) [] (omega arith) within) in
+    omega arith
+
+pub rows-le-cells : (d n : ℕ) (rows : List (List ℕ)) → All (IsTuple d n) rows → AllPairs IsBefore rows → length rows ≤ d ^ n
+rows-le-cells d n [] tuples ascending = omega arith
+rows-le-cells d n (row ∷ rows) tuples ascending =
+    let last = place-le-cell d n (row ∷ rows) tuples ascending (length rows) (omega arith) in
+    let within = cell_of-IsTuple d n (get_or (row ∷ rows) (length rows) []) (tuples (length rows) [] (omega arith)) in
+    omega arith
+
+pub few_cells : (d n : ℕ) → d ≤ 5 → n ≤ 6 → d ^ n ≤ 15625
+few_cells d n few short =
+    let base : d ^ n ≤ 5 ^ n = pow-le-pow_left {n = d} {m = 5} few n in
+    let exponent : 5 ^ n ≤ 5 ^ 6 = pow-le-pow_right {n = 5} (omega arith) {i = n} {j = 6} short in
+    omega arith
+
+pub length-rows : (r : RelationView) → IsRelation r → length r.rows ≤ r.domain ^ r.arity
+length-rows r is = rows-le-cells r.domain r.arity r.rows is.tuples is.ascending
+
+pub length-rows_few : (r : RelationView) → IsRelation r → length r.rows ≤ 15625
+length-rows_few r is =
+    let rows = length-rows r is in
+    let cells = few_cells r.domain r.arity is.domain_is.few is.few_places in
+    omega arith
+
+-- a language with a row, and with a relation
+
+-- the relation with the tuple as a row
+abbrev pub relation_with_row : RelationView → List ℕ → RelationView
+relation_with_row r t = record { domain = r.domain; arity = r.arity; rows = with_row t r.rows }
+
+pub IsRelation-with_row : (r : RelationView) (t : List ℕ) → IsRelation r → IsTuple r.domain r.arity t → IsRelation (relation_with_row r t)
+IsRelation-with_row r t is tuple =
+    let long = AreLong-tuples r.domain r.arity r.rows is.tuples in
+    record {
+      domain_is = is.domain_is;
+      some_places = is.some_places;
+      few_places = is.few_places;
+      tuples = All-with_row (IsTuple r.domain r.arity) r.arity t r.rows tuple.long long tuple is.tuples;
+      ascending = ascending-with_row r.arity t r.rows tuple.long long is.ascending
+    }
+
+pub IsRelationOver-with_row : (d : ℕ) (r : RelationView) (t : List ℕ) → IsRelationOver d r → IsTuple r.domain r.arity t → IsRelationOver d (relation_with_row r t)
+IsRelationOver-with_row d r t over tuple = record { is_relation = IsRelation-with_row r t over.is_relation tuple; same_domain = over.same_domain }
+
+abbrev pub Named : Type 0
+Named = List ℕ × RelationView
+
+names-with_row_at_last : (t : List ℕ) (relations : List Named) → map (λ e. e.0) (with_row_at_last t relations) ≡ map (λ e. e.0) relations
+names-with_row_at_last t [] = refl
+names-with_row_at_last t (e ∷ []) = refl
+names-with_row_at_last t (e ∷ f ∷ rest) = ap (λ names. e.0 ∷ names) (names-with_row_at_last t (f ∷ rest))
+
+length-with_row_at_last : (t : List ℕ) (relations : List Named) → length (with_row_at_last t relations) ≡ length relations
+length-with_row_at_last t [] = refl
+length-with_row_at_last t (e ∷ []) = refl
+length-with_row_at_last t (e ∷ f ∷ rest) = ap suc (length-with_row_at_last t (f ∷ rest))
+
+-- what stands at the last place
+get_or-with_row_at_last : (t : List ℕ) (e : Named) (rest : List Named) (d : Named) → get_or (with_row_at_last t (e ∷ rest)) (length rest) d ≡ ((get_or (e ∷ rest) (length rest) d).0, relation_with_row (get_or (e ∷ rest) (length rest) d).1 t)
+get_or-with_row_at_last t e [] d = refl
+get_or-with_row_at_last t e (f ∷ rest) d = get_or-with_row_at_last t f rest d
+
+-- what stands before it
+get_or-with_row_at_last_other : (t : List ℕ) (relations : List Named) (i : ℕ) (d : Named) → i + 1 < length relations → get_or (with_row_at_last t relations) i d ≡ get_or relations i d
+get_or-with_row_at_last_other t [] i d before = refl
+get_or-with_row_at_last_other t (e ∷ []) i d before = absurd (omega arith)
+get_or-with_row_at_last_other t (e ∷ f ∷ rest) zero d before = refl
+get_or-with_row_at_last_other t (e ∷ f ∷ rest) (suc i) d before = get_or-with_row_at_last_other t (f ∷ rest) i d (omega arith)
+
+-- each relation, where the last one is kept with the row
+relations-with_row_at_last : (d : ℕ) (t : List ℕ) (e : Named) (rest : List Named) → All (λ f. IsRelationOver d f.1) (e ∷ rest) → (let last = get_or (e ∷ rest) (length rest) ([], no_relation) in IsTuple last.1.domain last.1.arity t) → All (λ f. IsRelationOver d f.1) (with_row_at_last t (e ∷ rest))
+relations-with_row_at_last d t e [] all tuple =
+    All-cons (λ f. IsRelationOver d f.1) (e.0, relation_with_row e.1 t) [] (IsRelationOver-with_row d e.1 t (All-head (λ f. IsRelationOver d f.1) e [] all) tuple) (All-nil (λ f. IsRelationOver d f.1))
+relations-with_row_at_last d t e (f ∷ rest) all tuple =
+    All-cons (λ f. IsRelationOver d f.1) e (with_row_at_last t (f ∷ rest)) (All-head (λ f. IsRelationOver d f.1) e (f ∷ rest) all)
+    (relations-with_row_at_last d t f rest (All-tail (λ f. IsRelationOver d f.1) e (f ∷ rest) all) tuple)
+
+-- the names are distinct where the names are distinct
+distinct_names : (relations : List Named) → AllPairs (λ e f. e.0 ≢ f.0) relations → AllPairs (λ a b. a ≢ b) (map (λ e. e.0) relations)
+distinct_names relations distinct = λ i j d less inside same.
+    let j-inside : j < length relations = omega (arith, length-map relations (λ e. e.0)) in
+    let i-inside : i < length relations = omega arith in
+    distinct i j (d, no_relation) less j-inside
+    (sym (get_or-map (λ e. e.0) relations i (d, no_relation) d i-inside) ∙ (same ∙ get_or-map (λ e. e.0) relations j (d, no_relation) d j-inside))
+
+distinct_relations : (relations : List Named) → AllPairs (λ a b. a ≢ b) (map (λ e. e.0) relations) → AllPairs (λ e f. e.0 ≢ f.0) relations
+distinct_relations relations distinct = λ i j d less inside same.
+    let i-inside : i < length relations = omega arith in
+    distinct i j d.0 less (omega (arith, length-map relations (λ e. e.0)))
+    (get_or-map (λ e. e.0) relations i d d.0 i-inside ∙ (same ∙ sym (get_or-map (λ e. e.0) relations j d d.0 inside)))
+
+pub names_of-with_last_row : (lang : LanguageView) (t : List ℕ) → names_of (with_last_row lang t) ≡ names_of lang
+names_of-with_last_row lang t = names-with_row_at_last t lang.relations
+
+pub length-with_last_row : (lang : LanguageView) (t : List ℕ) → length (with_last_row lang t).relations ≡ length lang.relations
+length-with_last_row lang t = length-with_row_at_last t lang.relations
+
+last_relation : (t : List ℕ) (relations : List Named) (d : Named) → 0 < length relations → get_or (with_row_at_last t relations) (length relations - 1) d ≡ ((get_or relations (length relations - 1) d).0, relation_with_row (get_or relations (length relations - 1) d).1 t)
+last_relation t [] d some = absurd (omega arith)
+last_relation t (e ∷ rest) d some =
+    let last : suc (length rest) - 1 ≡ length rest = omega arith in
+    rw last (get_or-with_row_at_last t e rest d)
+
+-- the last relation is the old one with the row
+pub relation_of-with_last_row : (lang : LanguageView) (t : List ℕ) → 0 < length lang.relations → relation_of (with_last_row lang t) (length lang.relations - 1) ≡ relation_with_row (relation_of lang (length lang.relations - 1)) t
+relation_of-with_last_row lang t some = ap (λ e. e.1) (last_relation t lang.relations ([], no_relation) some)
+
+-- the other relations stay
+pub relation_of-with_last_row_other : (lang : LanguageView) (t : List ℕ) (r : ℕ) → r + 1 < length lang.relations → relation_of (with_last_row lang t) r ≡ relation_of lang r
+relation_of-with_last_row_other lang t r before = ap (λ e. e.1) (get_or-with_row_at_last_other t lang.relations r ([], no_relation) before)
+
+relations_kept : (d : ℕ) (t : List ℕ) (relations : List Named) → All (λ f. IsRelationOver d f.1) relations → (let last = get_or relations (length relations - 1) ([], no_relation) in IsTuple last.1.domain last.1.arity t) → All (λ f. IsRelationOver d f.1) (with_row_at_last t relations)
+relations_kept d t [] all tuple = all
+relations_kept d t (e ∷ rest) all tuple =
+    let last : suc (length rest) - 1 ≡ length rest = omega arith in
+    relations-with_row_at_last d t e rest all (rw last at tuple)
+
+pub IsLanguage-with_last_row : (lang : LanguageView) (t : List ℕ) → IsLanguage lang → IsTuple (relation_of lang (length lang.relations - 1)).domain (relation_of lang (length lang.relations - 1)).arity t → IsLanguage (with_last_row lang t)
+IsLanguage-with_last_row lang t is tuple = record {
+  domain_is = is.domain_is;
+  relations_are = relations_kept lang.domain t lang.relations is.relations_are tuple;
+  distinct = distinct_relations (with_row_at_last t lang.relations) (subst (λ names. AllPairs (λ a b. a ≢ b) names) (sym (names-with_row_at_last t lang.relations)) (distinct_names lang.relations is.distinct))
+}
+
+pub names_of-with_relation : (lang : LanguageView) (name : List ℕ) (r : RelationView) → names_of (with_relation lang name r) ≡ names_of lang ++ name ∷ []
+names_of-with_relation lang name r = map_push (λ e. e.0) lang.relations (name, r)
+
+pub length-with_relation : (lang : LanguageView) (name : List ℕ) (r : RelationView) → length (with_relation lang name r).relations ≡ length lang.relations + 1
+length-with_relation lang name r = length_push lang.relations (name, r)
+
+pub IsLanguage-with_relation : (lang : LanguageView) (name : List ℕ) (r : RelationView) → IsLanguage lang → IsRelationOver lang.domain r → (Contains (names_of lang) name → ⊥) → IsLanguage (with_relation lang name r)
+IsLanguage-with_relation lang name r is over new = record {
+  domain_is = is.domain_is;
+  relations_are = All-push (λ e. IsRelationOver lang.domain e.1) lang.relations (name, r) is.relations_are over;
+  distinct = all_pairs_push (λ e f. e.0 ≢ f.0) lang.relations (name, r) is.distinct (λ k d inside same.
+    new (k, omega (arith, length-map lang.relations (λ e. e.0)), get_or-map (λ e. e.0) lang.relations k d name inside ∙ same))
+}
+
+-- a relation that is begun has no rows
+pub IsRelation-begun : (d arity : ℕ) → IsDomain d → 1 ≤ arity → arity ≤ 6 → IsRelation (record { domain = d; arity = arity; rows = [] })
+IsRelation-begun d arity domain some few = record {
+  domain_is = domain;
+  some_places = some;
+  few_places = few;
+  tuples = All-nil (IsTuple d arity);
+  ascending = AllPairs-nil IsBefore
+}
+
+-- a language that is begun has no relations
+pub IsLanguage-begun : (d : ℕ) → IsDomain d → IsLanguage (record { domain = d; relations = [] })
+IsLanguage-begun d domain = record { domain_is = domain; relations_are = All-nil (λ e. IsRelationOver d e.1); distinct = AllPairs-nil (λ e f. e.0 ≢ f.0) }
