@@ -1,9 +1,13 @@
 -- Counts of faults, which never fall and stand still at 2^64 - 1.
 use Rattle.std.specs.Prelude.{ℕ, ◌+◌, ◌-◌, ◌^◌, ◌≤◌, min, Result, OnErr}
 
+-- one more, up to 2^64 - 1
+abbrev pub one_more : ℕ → ℕ
+one_more count = min (count + 1) (2 ^ 64 - 1)
+
 -- the count is greater now than before, or stands at 2^64 - 1
 abbrev pub Rose : ℕ → ℕ → Type 0
-Rose before now = min (before + 1) (2 ^ 64 - 1) ≤ now
+Rose before now = one_more before ≤ now
 
 -- the count has not fallen in a call, and has risen where the call failed
 pub record HasCause {A E : Type 0} (before now : ℕ) (result : Result A E) : Type 0 where

@@ -1,6 +1,7 @@
 -- Sources and sinks in memory, whose calls are numbered from 0 and fail by a list of numbers.
-use Rattle.std.specs.Prelude.{ℕ, zero, suc, ◌+◌, ◌-◌, ◌^◌, min, List, Bool, Result, Ok, Err, if◌then◌else◌, ◌&&◌, ◌==◌, nat_lt}
+use Rattle.std.specs.Prelude.{ℕ, zero, suc, ◌^◌, List, Bool, Result, Ok, Err, if◌then◌else◌, ◌&&◌, ◌==◌, nat_lt}
 use Rattle.std.specs.List.{list_any}
+use Rattle.pol_outside.specs.Faults.{one_more}
 
 pub record SourceView : Type 0 where
   pub left : List ℕ
@@ -25,11 +26,7 @@ abbrev pub fault_count : List ℕ → ℕ → ℕ
 fault_count failing zero = 0
 fault_count failing (suc calls) = if fails_at failing calls then suc (fault_count failing calls) else fault_count failing calls
 
--- one more, up to 2^64 - 1
-abbrev pub next_number : ℕ → ℕ
-next_number number = min (number + 1) (2 ^ 64 - 1)
-
 -- a count of faults behind a call
 abbrev pub faults_after : {A E : Type 0} → Result A E → ℕ → ℕ
 faults_after (Ok _) faults = faults
-faults_after (Err _) faults = next_number faults
+faults_after (Err _) faults = one_more faults

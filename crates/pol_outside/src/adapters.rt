@@ -2,11 +2,12 @@ ghost use Rattle.std.specs.Prelude.{◌≡◌, ℕ, None};
 ghost use Rattle.pol_outside.specs.Faults.{HasCause};
 ghost use Rattle.pol_outside.specs.Adapters.{Counted};
 
+use crate::streams::count_fault;
 use crate::{Failed, Sink, Source};
 use std::io::{Read, Write};
 use std::marker::Model;
 
-/// A source over any reader. The reader's bytes are not told.
+/// A source over any reader. Which bytes the reader gives, and where it fails, is not told.
 #[derive(Debug, Drop)]
 pub struct ReaderSource<R> {
     reader: R,
@@ -20,6 +21,7 @@ impl<R> Model for ReaderSource<R> {
 }
 
 impl<R: Read> ReaderSource<R> {
+    /// No error was met yet.
     pub fn new(reader: R) -> ReaderSource<R>
         ensures made { result ≡ record { stream = reader; faults = 0 } }
     {
@@ -35,15 +37,12 @@ impl<R: Read> Source for ReaderSource<R> {
     fn read(&mut self, into: &mut [u8]) -> Result<usize, Failed> {
         match self.reader.read(into) {
             Ok(count) => Ok(count),
-            Err(_) => {
-                self.faults = self.faults.saturating_add(1);
-                Err(Failed)
-            }
+            Err(_) => Err(count_fault(&mut self.faults)),
         }
     }
 }
 
-/// A sink over any writer. What the writer holds is not told.
+/// A sink over any writer. What the writer holds, and where it fails, is not told.
 #[derive(Debug, Drop)]
 pub struct WriterSink<W> {
     writer: W,
@@ -57,6 +56,7 @@ impl<W> Model for WriterSink<W> {
 }
 
 impl<W: Write> WriterSink<W> {
+    /// No error was met yet.
     pub fn new(writer: W) -> WriterSink<W>
         ensures made { result ≡ record { stream = writer; faults = 0 } }
     {
@@ -69,10 +69,7 @@ impl<W: Write> WriterSink<W> {
     {
         match self.writer.flush() {
             Ok(()) => Ok(()),
-            Err(_) => {
-                self.faults = self.faults.saturating_add(1);
-                Err(Failed)
-            }
+            Err(_) => Err(count_fault(&mut self.faults)),
         }
     }
 }
@@ -82,13 +79,11 @@ impl<W: Write> Sink for WriterSink<W> {
 
     ghost faults = { λ s. s.faults };
 
+    // a writer that takes none of some bytes would be asked for ever
     fn write(&mut self, piece: &[u8]) -> Result<usize, Failed> {
         match self.writer.write(piece) {
             Ok(count) if count > 0 || piece.is_empty() => Ok(count),
-            _ => {
-                self.faults = self.faults.saturating_add(1);
-                Err(Failed)
-            }
+            _ => Err(count_fault(&mut self.faults)),
         }
     }
 }

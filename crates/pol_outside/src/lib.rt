@@ -13,6 +13,5 @@ pub use reading::{TakeFault, read_all};
 pub use streams::{Failed, Sink, Source};
 pub use writing::{WriteFault, write_all};
 
-
 #[cfg(test)]
 mod tests;

@@ -1,9 +1,10 @@
 ghost use Rattle.std.specs.Prelude.{◌≡◌, ℕ, ◌+◌, ◌-◌, ◌<◌, ◌≤◌, ◌⊎◌, ◌↔◌, min, Some, List, [], length, IfOk, IsErr, IsTrue, vec_len, vec_capacity};
 ghost use Rattle.std.specs.Io.{ReadsAtMost, WritesAtMost};
 ghost use Rattle.std.specs.Io.KnownBytes.{ReadConsumes, WriteAppends};
-ghost use Rattle.pol_outside.specs.Faults.{HasCause};
-ghost use Rattle.pol_outside.specs.Memory.{SourceView, SinkView, fails_at, fault_count, next_number, faults_after};
+ghost use Rattle.pol_outside.specs.Faults.{HasCause, one_more};
+ghost use Rattle.pol_outside.specs.Memory.{SourceView, SinkView, fails_at, fault_count, faults_after};
 
+use crate::streams::count_fault;
 use crate::{Failed, Sink, Source};
 use pol_base::NoMemory;
 use std::alloc::Global;
@@ -52,8 +53,9 @@ impl<'a> Source for MemorySource<'a> {
         ensures cause { HasCause (fault_count self.old.failing self.old.calls) (fault_count self.new.failing self.new.calls) result }
         ensures fails { IsErr result ↔ IsTrue (fails_at self.old.failing self.old.calls) }
         ensures gives { IfOk result (λ n. n ≡ min self.old.chunk (min (length into.new) (length self.old.left))) }
-        ensures number { self.new.calls ≡ next_number self.old.calls }
-        ensures same { (self.new.chunk ≡ self.old.chunk) × (self.new.failing ≡ self.old.failing) }
+        ensures number { self.new.calls ≡ one_more self.old.calls }
+        ensures chunk { self.new.chunk ≡ self.old.chunk }
+        ensures failing { self.new.failing ≡ self.old.failing }
     {
         let number = self.calls;
         self.calls = number.saturating_add(1);
@@ -89,7 +91,12 @@ impl<'a> Model for MemorySink<'a> {
 impl<'a> MemorySink<'a> {
     /// A write takes at most `chunk` bytes, and fails where no room is left or where its number, counted
     /// from 0, is in `failing`. The memory for all the room is taken here, and no write takes any.
-    pub fn new(alloc: Global, room: usize, chunk: usize, failing: &'a [u32]) -> Result<MemorySink<'a>, NoMemory>
+    pub fn new(
+        alloc: Global,
+        room: usize,
+        chunk: usize,
+        failing: &'a [u32],
+    ) -> Result<MemorySink<'a>, NoMemory>
         requires chunk { 1 ≤ chunk }
         ensures made { IfOk result (λ sink. sink ≡ record { bytes = []; room = room; chunk = chunk; failing = failing.now; calls = 0; faults = 0 }) }
     {
@@ -125,16 +132,16 @@ impl<'a> Sink for MemorySink<'a> {
         ensures takes { IfOk result (λ n. n ≡ min self.old.chunk (min (length piece.now) self.old.room)) }
         ensures room { self.new.room + length self.new.bytes ≡ self.old.room + length self.old.bytes }
         ensures count { self.new.faults ≡ faults_after result self.old.faults }
-        ensures number { self.new.calls ≡ next_number self.old.calls }
-        ensures same { (self.new.chunk ≡ self.old.chunk) × (self.new.failing ≡ self.old.failing) }
+        ensures number { self.new.calls ≡ one_more self.old.calls }
+        ensures chunk { self.new.chunk ≡ self.old.chunk }
+        ensures failing { self.new.failing ≡ self.old.failing }
     {
         let number = self.calls;
         self.calls = number.saturating_add(1);
-        let count = self.chunk.min(piece.len()).min(self.room);
         if !piece.is_empty() && (self.room == 0 || is_failing(self.failing, number)) {
-            self.faults = self.faults.saturating_add(1);
-            return Err(Failed);
+            return Err(count_fault(&mut self.faults));
         }
+        let count = self.chunk.min(piece.len()).min(self.room);
         self.bytes.extend_from_slice(&piece[..count]).unwrap();
         self.room -= count;
         Ok(count)

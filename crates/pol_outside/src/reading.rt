@@ -25,6 +25,7 @@ impl From<NoMemory> for TakeFault {
     }
 }
 
+// the most that one read is asked for
 const PIECE: usize = 16_384;
 
 /// Takes all bytes of the source up to its end, if those are at most `limit`.
@@ -61,7 +62,7 @@ fn take_more<S: Source>(source: &mut S, taken: &mut Values, limit: u64) -> Resul
 {
     let room = limit as usize - taken.as_slice().len();
     let mut buffer = [0u8; PIECE];
-    let wanted = if room < PIECE { room + 1 } else { PIECE };
+    let wanted = PIECE.min(room + 1);
     let Ok(count) = source.read(&mut buffer[..wanted]) else {
         return Err(TakeFault::ReadFault);
     };

@@ -1,6 +1,6 @@
 use crate::{
-    MemorySink, MemorySource, ReaderSource, Source, TakeFault, WriteFault, WriterSink,
-    read_all, write_all,
+    MemorySink, MemorySource, ReaderSource, Source, TakeFault, WriteFault, WriterSink, read_all,
+    write_all,
 };
 
 #[test]
@@ -29,7 +29,7 @@ fn a_failed_read_ends_the_reading(rt: HostRuntime) {
 
 #[test]
 fn room_ends_the_writing(rt: HostRuntime) {
-    let mut sink = MemorySink::new(rt.alloc(), 10, 4, &[]).unwrap();
+    let mut sink = MemorySink::new(rt.alloc(), 10, 4, &[]).expect(&rt, "memory");
     assert_eq!(rt; write_all(&mut sink, b"twelve bytes"), Err(WriteFault));
     assert_eq!(rt; sink.bytes(), b"twelve byt".as_slice());
 }
