@@ -87,12 +87,12 @@ no_circle a b less more = omega arith
 
 -- the tuple that comes before has the smaller cell
 pub cell_of-before : (d : ℕ) (xs ys : List ℕ) → length xs ≡ length ys → All (λ v. v < d) xs → All (λ v. v < d) ys → IsBefore xs ys → cell_of d xs < cell_of d ys
-cell_of-before d [] ys same xs-below ys-below before = absurd before
-cell_of-before d (x ∷ xs) [] same xs-below ys-below before = absurd before
-cell_of-before d (x ∷ xs) (y ∷ ys) same xs-below ys-below before =
+cell_of-before d [] ys same xs_below ys_below before = absurd before
+cell_of-before d (x ∷ xs) [] same xs_below ys_below before = absurd before
+cell_of-before d (x ∷ xs) (y ∷ ys) same xs_below ys_below before =
     let tails : length xs ≡ length ys = cc in
-    let small = cell_of-below d xs (All-tail (λ v. v < d) x xs xs-below) in
-    let rest = cell_of-before d xs ys tails (All-tail (λ v. v < d) x xs xs-below) (All-tail (λ v. v < d) y ys ys-below) in
+    let small = cell_of-below d xs (All-tail (λ v. v < d) x xs xs_below) in
+    let rest = cell_of-before d xs ys tails (All-tail (λ v. v < d) x xs xs_below) (All-tail (λ v. v < d) y ys ys_below) in
     elim before [
       | inl less ↦ head_decides x y (d ^ length xs) (d ^ length ys) (cell_of d xs) (cell_of d ys) (ap (λ n. d ^ n) tails) less small
       | inr equal ↦ tail_decides x y (d ^ length xs) (d ^ length ys) (cell_of d xs) (cell_of d ys) (ap (λ n. d ^ n) tails) equal.0 (rest equal.1)
@@ -100,14 +100,14 @@ cell_of-before d (x ∷ xs) (y ∷ ys) same xs-below ys-below before =
 
 -- tuples of one length with the smaller cell comes before
 pub before-cell_of : (d : ℕ) (xs ys : List ℕ) → length xs ≡ length ys → All (λ v. v < d) xs → All (λ v. v < d) ys → cell_of d xs < cell_of d ys → IsBefore xs ys
-before-cell_of d [] [] same xs-below ys-below less = omega arith
-before-cell_of d [] (y ∷ ys) same xs-below ys-below less = absurd (cc)
-before-cell_of d (x ∷ xs) [] same xs-below ys-below less = absurd (cc)
-before-cell_of d (x ∷ xs) (y ∷ ys) same xs-below ys-below less =
+before-cell_of d [] [] same xs_below ys_below less = omega arith
+before-cell_of d [] (y ∷ ys) same xs_below ys_below less = absurd (cc)
+before-cell_of d (x ∷ xs) [] same xs_below ys_below less = absurd (cc)
+before-cell_of d (x ∷ xs) (y ∷ ys) same xs_below ys_below less =
     let tails : length xs ≡ length ys = cc in
     let powers : d ^ length xs ≡ d ^ length ys = ap (λ n. d ^ n) tails in
-    let small = cell_of-below d ys (All-tail (λ v. v < d) y ys ys-below) in
-    let rest = before-cell_of d xs ys tails (All-tail (λ v. v < d) x xs xs-below) (All-tail (λ v. v < d) y ys ys-below) in
+    let small = cell_of-below d ys (All-tail (λ v. v < d) y ys ys_below) in
+    let rest = before-cell_of d xs ys tails (All-tail (λ v. v < d) x xs xs_below) (All-tail (λ v. v < d) y ys ys_below) in
     elim (cases_order x y) [
       | inl equal ↦ inr (equal, rest (tail_left x y (d ^ length xs) (d ^ length ys) (cell_of d xs) (cell_of d ys) powers equal less))
       | inr unequal ↦ elim unequal [
@@ -118,8 +118,8 @@ before-cell_of d (x ∷ xs) (y ∷ ys) same xs-below ys-below less =
 
 -- tuples of one length with one cell are one
 pub same_from_cell_of : (d : ℕ) (xs ys : List ℕ) → length xs ≡ length ys → All (λ v. v < d) xs → All (λ v. v < d) ys → cell_of d xs ≡ cell_of d ys → xs ≡ ys
-same_from_cell_of d xs ys same xs-below ys-below cells =
-    sym (digits_of-cell_of d xs xs-below) ∙ (ap (λ n. digits_of d n (cell_of d xs)) same ∙ (ap (digits_of d (length ys)) cells ∙ digits_of-cell_of d ys ys-below))
+same_from_cell_of d xs ys same xs_below ys_below cells =
+    sym (digits_of-cell_of d xs xs_below) ∙ (ap (λ n. digits_of d n (cell_of d xs)) same ∙ (ap (digits_of d (length ys)) cells ∙ digits_of-cell_of d ys ys_below))
 
 -- the digits above do not count
 lower_digits : (d low high k cell : ℕ) → 1 ≤ d → high + 1 + low ≡ k → cell % d ^ k / d ^ low % d ≡ cell / d ^ low % d

@@ -1,5 +1,5 @@
 -- The order of lists: transitive, irreflexive, total at one length, and the answers of `slice_cmp`.
-use Rattle.std.proofs.Common.{◌≡◌, ℕ, suc, ◌<◌, Bool, true, false, inl, inr, List, [], ◌∷◌, length, Ordering, Less, Equal, Greater, All, AllPairs, get_or, refl, sym, ap, ◌∙◌, arith}
+use Rattle.std.proofs.Common.{◌≡◌, ℕ, suc, ◌<◌, true, inl, inr, List, [], ◌∷◌, length, Ordering, Less, Equal, Greater, All, AllPairs, get_or, refl, sym, ap, ◌∙◌, arith}
 use Rattle.std.specs.Bool.{Decides}
 use Rattle.std.specs.Cmp.{nat_cmp_is}
 use Rattle.std.specs.Cmp.Lexicographic.{slice_cmp}
@@ -20,10 +20,10 @@ IsBefore-trans (x ∷ xs) [] zs first second = absurd first
 IsBefore-trans (x ∷ xs) (y ∷ ys) [] first second = absurd second
 IsBefore-trans (x ∷ xs) (y ∷ ys) (z ∷ zs) first second =
     elim first [
-      inl less ↦ elim second [ inl more ↦ inl (omega arith) | inr tied ↦ inl (omega arith) ]
-    | inr equal ↦ elim second [
-        inl more ↦ inl (omega arith)
-      | inr tied ↦ inr (equal.0 ∙ tied.0, IsBefore-trans xs ys zs equal.1 tied.1)
+      | inl less ↦ elim second [ inl more ↦ inl (omega arith) | inr tied ↦ inl (omega arith) ]
+      | inr equal ↦ elim second [
+        | inl more ↦ inl (omega arith)
+        | inr tied ↦ inr (equal.0 ∙ tied.0, IsBefore-trans xs ys zs equal.1 tied.1)
       ]
     ]
 
@@ -43,9 +43,9 @@ pub data Order (xs ys : List ℕ) : Type 0 where
 order_behind : (x y : ℕ) (xs ys : List ℕ) → x ≡ y → Order xs ys → Order (x ∷ xs) (y ∷ ys)
 order_behind x y xs ys heads order =
     elim order [
-      Before before ↦ Order.Before (inr (heads, before))
-    | Same same ↦ Order.Same (cc)
-    | After after ↦ Order.After (inr (sym heads, after))
+      | Before before ↦ Order.Before (inr (heads, before))
+      | Same same ↦ Order.Same (cc)
+      | After after ↦ Order.After (inr (sym heads, after))
     ]
 
 -- lists of one length are in some order
@@ -56,8 +56,8 @@ order_of (x ∷ xs) [] long = absurd (cc)
 order_of (x ∷ xs) (y ∷ ys) long =
     let rest = order_of xs ys (cc) in
     elim (cases_order x y) [
-      inl equal ↦ order_behind x y xs ys equal rest
-    | inr unequal ↦ elim unequal [ inl less ↦ Order.Before (inl less) | inr more ↦ Order.After (inl more) ]
+      | inl equal ↦ order_behind x y xs ys equal rest
+      | inr unequal ↦ elim unequal [ inl less ↦ Order.Before (inl less) | inr more ↦ Order.After (inl more) ]
     ]
 
 nat_cmp-less : (x y : ℕ) → x < y → nat_cmp x y ≡ Less
@@ -74,8 +74,8 @@ slice_cmp-before [] ys before = absurd before
 slice_cmp-before (x ∷ xs) [] before = absurd before
 slice_cmp-before (x ∷ xs) (y ∷ ys) before =
     elim before [
-      inl less ↦ rw (nat_cmp-less x y less) refl
-    | inr equal ↦ rw (nat_cmp-equal x y equal.0) (slice_cmp-before xs ys equal.1)
+      | inl less ↦ rw (nat_cmp-less x y less) refl
+      | inr equal ↦ rw (nat_cmp-equal x y equal.0) (slice_cmp-before xs ys equal.1)
     ]
 
 pub slice_cmp-after : (xs ys : List ℕ) → IsBefore ys xs → slice_cmp nat_cmp xs ys ≡ Greater
@@ -83,8 +83,8 @@ slice_cmp-after xs [] after = absurd after
 slice_cmp-after [] (y ∷ ys) after = absurd after
 slice_cmp-after (x ∷ xs) (y ∷ ys) after =
     elim after [
-      inl more ↦ rw (nat_cmp-greater x y more) refl
-    | inr equal ↦ rw (nat_cmp-equal x y (sym equal.0)) (slice_cmp-after xs ys equal.1)
+      | inl more ↦ rw (nat_cmp-greater x y more) refl
+      | inr equal ↦ rw (nat_cmp-equal x y (sym equal.0)) (slice_cmp-after xs ys equal.1)
     ]
 
 pub slice_cmp-itself : (xs : List ℕ) → slice_cmp nat_cmp xs xs ≡ Equal
@@ -97,17 +97,17 @@ slice_cmp-same xs ys same = rw same (slice_cmp-itself ys)
 pub before-slice_cmp : (xs ys : List ℕ) → length xs ≡ length ys → slice_cmp nat_cmp xs ys ≡ Less → IsBefore xs ys
 before-slice_cmp xs ys long less =
     elim (order_of xs ys long) [
-      Before before ↦ before
-    | Same same ↦ absurd (let other = slice_cmp-same xs ys same in cc)
-    | After after ↦ absurd (let other = slice_cmp-after xs ys after in cc)
+      | Before before ↦ before
+      | Same same ↦ absurd (let other = slice_cmp-same xs ys same in cc)
+      | After after ↦ absurd (let other = slice_cmp-after xs ys after in cc)
     ]
 
 pub after-slice_cmp : (xs ys : List ℕ) → length xs ≡ length ys → slice_cmp nat_cmp xs ys ≡ Greater → IsBefore ys xs
 after-slice_cmp xs ys long more =
     elim (order_of xs ys long) [
-      Before before ↦ absurd (let other = slice_cmp-before xs ys before in cc)
-    | Same same ↦ absurd (let other = slice_cmp-same xs ys same in cc)
-    | After after ↦ after
+      | Before before ↦ absurd (let other = slice_cmp-before xs ys before in cc)
+      | Same same ↦ absurd (let other = slice_cmp-same xs ys same in cc)
+      | After after ↦ after
     ]
 
 less_from_test : (answer : Ordering) → is_lt answer ≡ true → answer ≡ Less
@@ -129,6 +129,7 @@ ascending_from_sorted n rows long sorted = λ i j d less inside.
 pub sorted_from_ascending : (rows : List (List ℕ)) → AllPairs IsBefore rows → IsStrictlySortedBy (slice_cmp nat_cmp) rows
 unfolding IsStrictlySortedBy
 sorted_from_ascending [] ascending = tt
-sorted_from_ascending (row ∷ rows) ascending =
-    (recursion_from_All (λ y. slice_cmp nat_cmp row y ≡ Less) rows (λ k d inside. slice_cmp-before row (get_or rows k d) (ascending 0 (suc k) d (omega arith) (omega arith))),
-     sorted_from_ascending rows (λ i j d less inside. ascending (suc i) (suc j) d (omega arith) (omega arith)))
+sorted_from_ascending (row ∷ rows) ascending = (
+  recursion_from_All (λ y. slice_cmp nat_cmp row y ≡ Less) rows (λ k d inside. slice_cmp-before row (get_or rows k d) (ascending 0 (suc k) d (omega arith) (omega arith))),
+  sorted_from_ascending rows (λ i j d less inside. ascending (suc i) (suc j) d (omega arith) (omega arith)),
+)

@@ -1,20 +1,23 @@
 -- Rows and relations: what `with_row` and `ascending_rows` keep and add, how many rows there can be, and what a language keeps.
-use Rattle.std.proofs.Common.{◌≡◌, ◌≢◌, ℕ, zero, suc, ◌+◌, ◌-◌, ◌*◌, ◌^◌, ◌<◌, ◌≤◌, ◌⊎◌, Bool, true, false, ◌||◌, inl, inr, List, [], ◌∷◌, ◌++◌, length, map, take, drop, get_or, Ordering, Less, Equal, Greater, All, AllPairs, Contains, refl, sym, ap, ◌∙◌, subst, arith, add-one}
+use Rattle.std.proofs.Common.{◌≡◌, ◌≢◌, ℕ, zero, suc, ◌+◌, ◌-◌, ◌^◌, ◌<◌, ◌≤◌, ◌⊎◌, ◌||◌, inl, inr, List, [], ◌∷◌, ◌++◌, length, map, get_or, Ordering, Result, Ok, Err, Less, Equal, Greater, All, AllPairs, Contains, refl, sym, ap, ◌∙◌, subst, arith}
 use Rattle.std.specs.Bool.{Decides}
-use Rattle.std.specs.List.{list_any, insert, HoldsAt}
+use Rattle.std.specs.Result.{MatchResult}
+use Rattle.std.specs.List.Sorted.{IsSearchInRange, IsBinarySearchResult, IsPartitionPoint, IsNonDecreasingBy}
+use Rattle.std.proofs.lemmas.Bool.{cases_lt}
+use Rattle.std.specs.List.{list_any, insert}
 use Rattle.std.specs.Cmp.Lexicographic.{slice_cmp}
-use Rattle.std.specs.Ordering.{nat_cmp, is_lt, is_eq}
+use Rattle.std.specs.Ordering.{nat_cmp, is_eq, ordering_index}
 use Rattle.std.proofs.Math.Nat.{pow-le-pow_left, pow-le-pow_right}
 use Rattle.std.proofs.lemmas.Bool.Decides.{Decides-eqb, Decides-by_or, Decides-at}
 use Rattle.std.proofs.lemmas.Slice.Eq.{slice_eq-Decides}
-use Rattle.std.proofs.lemmas.List.{map_push, get_or-map, length-map, length_push}
+use Rattle.std.proofs.lemmas.List.{map_push, get_or-map, length-map, length_push, get_or_push, get_or_append_left}
 use Rattle.std.proofs.lemmas.List.Elements.{All-nil, All-cons, All-head, All-tail, All-push, All-weaker, All-contains, Decides-contains, Contains-get_or, All-contains_itself}
 use Rattle.std.proofs.lemmas.List.Kept.{AllPairs-cons}
 use Rattle.std.proofs.lemmas.List.Quantifiers.{all_pairs_push}
 use Rattle.pol_defs.specs.Tuples.{IsDomain, IsTuple, IsBefore, cell_of}
 use Rattle.pol_defs.specs.Relations.{RelationView, IsRelation, LanguageView, IsRelationOver, IsLanguage, no_relation, relation_of, names_of, is_same, has_name, has_row, with_row, ascending_rows, with_relation, with_row_at_last, with_last_row}
 use Rattle.pol_defs.proofs.CellLemmas.{cell_of-before, cell_of-IsTuple}
-use Rattle.pol_defs.proofs.OrderLemmas.{Order, order_of, slice_cmp-before, slice_cmp-same, slice_cmp-after, IsBefore-trans, IsBefore-irrefl, IsBefore-asym}
+use Rattle.pol_defs.proofs.OrderLemmas.{order_of, slice_cmp-before, slice_cmp-same, slice_cmp-after, before-slice_cmp, after-slice_cmp, is_eq-decides, IsBefore-trans}
 use Rattle.pol_defs.proofs.OrderLemmas.Order.{Before, Same, After}
 
 -- members of a list with a first element
@@ -80,76 +83,76 @@ AreLong-tuples d n rows tuples = λ k fallback inside. (tuples k fallback inside
 
 -- what holds of the tuple and of each row holds of each row with the tuple
 pub All-with_row : (P : List ℕ → Type 0) (n : ℕ) (t : List ℕ) (rows : List (List ℕ)) → length t ≡ n → AreLong n rows → P t → All P rows → All P (with_row t rows)
-All-with_row P n t [] long rows-long holds all = All-cons P t [] holds (All-nil P)
-All-with_row P n t (row ∷ rows) long rows-long holds all =
-    let rest = All-with_row P n t rows long (All-tail (λ r. length r ≡ n) row rows rows-long) holds (All-tail P row rows all) in
-    elim (order_of row t (All-head (λ r. length r ≡ n) row rows rows-long ∙ sym long)) [
-      Before before ↦ rw (with_row-before t row rows before) (All-cons P row (with_row t rows) (All-head P row rows all) rest)
-    | Same same ↦ rw (with_row-same t row rows same) all
-    | After after ↦ rw (with_row-after t row rows after) (All-cons P t (row ∷ rows) holds all)
+All-with_row P n t [] long rows_long holds all = All-cons P t [] holds (All-nil P)
+All-with_row P n t (row ∷ rows) long rows_long holds all =
+    let rest = All-with_row P n t rows long (All-tail (λ r. length r ≡ n) row rows rows_long) holds (All-tail P row rows all) in
+    elim (order_of row t (All-head (λ r. length r ≡ n) row rows rows_long ∙ sym long)) [
+      | Before before ↦ rw (with_row-before t row rows before) (All-cons P row (with_row t rows) (All-head P row rows all) rest)
+      | Same same ↦ rw (with_row-same t row rows same) all
+      | After after ↦ rw (with_row-after t row rows after) (All-cons P t (row ∷ rows) holds all)
     ]
 
 pub Contains-with_row : (n : ℕ) (t : List ℕ) (rows : List (List ℕ)) → length t ≡ n → AreLong n rows → Contains (with_row t rows) t
-Contains-with_row n t [] long rows-long = Contains-here t []
-Contains-with_row n t (row ∷ rows) long rows-long =
-    let rest = Contains-with_row n t rows long (All-tail (λ r. length r ≡ n) row rows rows-long) in
-    elim (order_of row t (All-head (λ r. length r ≡ n) row rows rows-long ∙ sym long)) [
-      Before before ↦ rw (with_row-before t row rows before) (Contains-there row t (with_row t rows) rest)
-    | Same same ↦ rw (with_row-same t row rows same) (0, omega arith, same)
-    | After after ↦ rw (with_row-after t row rows after) (Contains-here t (row ∷ rows))
+Contains-with_row n t [] long rows_long = Contains-here t []
+Contains-with_row n t (row ∷ rows) long rows_long =
+    let rest = Contains-with_row n t rows long (All-tail (λ r. length r ≡ n) row rows rows_long) in
+    elim (order_of row t (All-head (λ r. length r ≡ n) row rows rows_long ∙ sym long)) [
+      | Before before ↦ rw (with_row-before t row rows before) (Contains-there row t (with_row t rows) rest)
+      | Same same ↦ rw (with_row-same t row rows same) (0, omega arith, same)
+      | After after ↦ rw (with_row-after t row rows after) (Contains-here t (row ∷ rows))
     ]
 
 pub Contains-with_row_old : (n : ℕ) (t u : List ℕ) (rows : List (List ℕ)) → length t ≡ n → AreLong n rows → Contains rows u → Contains (with_row t rows) u
-Contains-with_row_old n t u [] long rows-long inside = absurd (Contains-nil u inside)
-Contains-with_row_old n t u (row ∷ rows) long rows-long inside =
-    let rest = Contains-with_row_old n t u rows long (All-tail (λ r. length r ≡ n) row rows rows-long) in
-    elim (order_of row t (All-head (λ r. length r ≡ n) row rows rows-long ∙ sym long)) [
-      Before before ↦ rw (with_row-before t row rows before) (elim (Contains-cons_cases row u rows inside) [
-          inl first ↦ (0, omega arith, first)
+Contains-with_row_old n t u [] long rows_long inside = absurd (Contains-nil u inside)
+Contains-with_row_old n t u (row ∷ rows) long rows_long inside =
+    let rest = Contains-with_row_old n t u rows long (All-tail (λ r. length r ≡ n) row rows rows_long) in
+    elim (order_of row t (All-head (λ r. length r ≡ n) row rows rows_long ∙ sym long)) [
+      | Before before ↦ rw (with_row-before t row rows before) (elim (Contains-cons_cases row u rows inside) [
+        | inl first ↦ (0, omega arith, first)
         | inr behind ↦ Contains-there row u (with_row t rows) (rest behind)
-        ])
-    | Same same ↦ rw (with_row-same t row rows same) inside
-    | After after ↦ rw (with_row-after t row rows after) (Contains-there t u (row ∷ rows) inside)
+      ])
+      | Same same ↦ rw (with_row-same t row rows same) inside
+      | After after ↦ rw (with_row-after t row rows after) (Contains-there t u (row ∷ rows) inside)
     ]
 
 -- a row with the tuple is the tuple, or one of the old rows
 pub with_row-cases : (n : ℕ) (t u : List ℕ) (rows : List (List ℕ)) → length t ≡ n → AreLong n rows → Contains (with_row t rows) u → (u ≡ t) ⊎ Contains rows u
-with_row-cases n t u rows long rows-long inside =
+with_row-cases n t u rows long rows_long inside =
     All-contains (λ v. (v ≡ t) ⊎ Contains rows v) (with_row t rows) u
-    (All-with_row (λ v. (v ≡ t) ⊎ Contains rows v) n t rows long rows-long (inl refl) (λ k d within. inr (Contains-get_or rows k d within))) inside
+    (All-with_row (λ v. (v ≡ t) ⊎ Contains rows v) n t rows long rows_long (inl refl) (λ k d within. inr (Contains-get_or rows k d within))) inside
 
 pub ascending-with_row : (n : ℕ) (t : List ℕ) (rows : List (List ℕ)) → length t ≡ n → AreLong n rows → AllPairs IsBefore rows → AllPairs IsBefore (with_row t rows)
-ascending-with_row n t [] long rows-long ascending = AllPairs-cons IsBefore t [] (All-nil (IsBefore t)) (AllPairs-nil IsBefore)
-ascending-with_row n t (row ∷ rows) long rows-long ascending =
-    let tail-long = All-tail (λ r. length r ≡ n) row rows rows-long in
+ascending-with_row n t [] long rows_long ascending = AllPairs-cons IsBefore t [] (All-nil (IsBefore t)) (AllPairs-nil IsBefore)
+ascending-with_row n t (row ∷ rows) long rows_long ascending =
+    let tail_long = All-tail (λ r. length r ≡ n) row rows rows_long in
     let later = AllPairs-head IsBefore row rows ascending in
-    let rest = ascending-with_row n t rows long tail-long (AllPairs-tail IsBefore row rows ascending) in
-    elim (order_of row t (All-head (λ r. length r ≡ n) row rows rows-long ∙ sym long)) [
-      Before before ↦ rw (with_row-before t row rows before) (AllPairs-cons IsBefore row (with_row t rows) (All-with_row (IsBefore row) n t rows long tail-long before later) rest)
-    | Same same ↦ rw (with_row-same t row rows same) ascending
-    | After after ↦ rw (with_row-after t row rows after) (AllPairs-cons IsBefore t (row ∷ rows)
-        (All-cons (IsBefore t) row rows after (All-weaker (IsBefore row) (IsBefore t) (λ u behind. IsBefore-trans t row u after behind) rows later)) ascending)
+    let rest = ascending-with_row n t rows long tail_long (AllPairs-tail IsBefore row rows ascending) in
+    elim (order_of row t (All-head (λ r. length r ≡ n) row rows rows_long ∙ sym long)) [
+      | Before before ↦ rw (with_row-before t row rows before) (AllPairs-cons IsBefore row (with_row t rows) (All-with_row (IsBefore row) n t rows long tail_long before later) rest)
+      | Same same ↦ rw (with_row-same t row rows same) ascending
+      | After after ↦ rw (with_row-after t row rows after) (AllPairs-cons IsBefore t (row ∷ rows)
+          (All-cons (IsBefore t) row rows after (All-weaker (IsBefore row) (IsBefore t) (λ u behind. IsBefore-trans t row u after behind) rows later)) ascending)
     ]
 
 -- a tuple that is there changes nothing
 pub with_row-there : (n : ℕ) (t : List ℕ) (rows : List (List ℕ)) → length t ≡ n → AreLong n rows → AllPairs IsBefore rows → Contains rows t → with_row t rows ≡ rows
-with_row-there n t [] long rows-long ascending inside = absurd (Contains-nil t inside)
-with_row-there n t (row ∷ rows) long rows-long ascending inside =
-    let rest = with_row-there n t rows long (All-tail (λ r. length r ≡ n) row rows rows-long) (AllPairs-tail IsBefore row rows ascending) in
+with_row-there n t [] long rows_long ascending inside = absurd (Contains-nil t inside)
+with_row-there n t (row ∷ rows) long rows_long ascending inside =
+    let rest = with_row-there n t rows long (All-tail (λ r. length r ≡ n) row rows rows_long) (AllPairs-tail IsBefore row rows ascending) in
     elim (Contains-cons_cases row t rows inside) [
-      inl first ↦ with_row-same t row rows first
-    | inr behind ↦ with_row-before t row rows (All-contains (IsBefore row) rows t (AllPairs-head IsBefore row rows ascending) behind) ∙ ap (λ some. row ∷ some) (rest behind)
+      | inl first ↦ with_row-same t row rows first
+      | inr behind ↦ with_row-before t row rows (All-contains (IsBefore row) rows t (AllPairs-head IsBefore row rows ascending) behind) ∙ ap (λ some. row ∷ some) (rest behind)
     ]
 
 -- a new tuple is one row more
 pub length-with_row_new : (n : ℕ) (t : List ℕ) (rows : List (List ℕ)) → length t ≡ n → AreLong n rows → (Contains rows t → ⊥) → length (with_row t rows) ≡ length rows + 1
-length-with_row_new n t [] long rows-long new = refl
-length-with_row_new n t (row ∷ rows) long rows-long new =
-    let rest = length-with_row_new n t rows long (All-tail (λ r. length r ≡ n) row rows rows-long) (λ inside. new (Contains-there row t rows inside)) in
-    elim (order_of row t (All-head (λ r. length r ≡ n) row rows rows-long ∙ sym long)) [
-      Before before ↦ rw (with_row-before t row rows before) (omega arith)
-    | Same same ↦ absurd (new (0, omega arith, same))
-    | After after ↦ rw (with_row-after t row rows after) (omega arith)
+length-with_row_new n t [] long rows_long new = refl
+length-with_row_new n t (row ∷ rows) long rows_long new =
+    let rest = length-with_row_new n t rows long (All-tail (λ r. length r ≡ n) row rows rows_long) (λ inside. new (Contains-there row t rows inside)) in
+    elim (order_of row t (All-head (λ r. length r ≡ n) row rows rows_long ∙ sym long)) [
+      | Before before ↦ rw (with_row-before t row rows before) (omega arith)
+      | Same same ↦ absurd (new (0, omega arith, same))
+      | After after ↦ rw (with_row-after t row rows after) (omega arith)
     ]
 
 -- the tuple goes between the rows before it and those after it
@@ -166,8 +169,8 @@ with_row-insert t (row ∷ rows) (suc i) within before after =
 pub All-ascending_rows : (P : List ℕ → Type 0) (n : ℕ) (tuples : List (List ℕ)) → AreLong n tuples → All P tuples → All P (ascending_rows tuples)
 All-ascending_rows P n [] long all = All-nil P
 All-ascending_rows P n (t ∷ ts) long all =
-    let tail-long = All-tail (λ r. length r ≡ n) t ts long in
-    All-with_row P n t (ascending_rows ts) (All-head (λ r. length r ≡ n) t ts long) (All-ascending_rows (λ r. length r ≡ n) n ts tail-long tail-long) (All-head P t ts all) (All-ascending_rows P n ts tail-long (All-tail P t ts all))
+    let tail_long = All-tail (λ r. length r ≡ n) t ts long in
+    All-with_row P n t (ascending_rows ts) (All-head (λ r. length r ≡ n) t ts long) (All-ascending_rows (λ r. length r ≡ n) n ts tail_long tail_long) (All-head P t ts all) (All-ascending_rows P n ts tail_long (All-tail P t ts all))
 
 pub AreLong-ascending_rows : (n : ℕ) (tuples : List (List ℕ)) → AreLong n tuples → AreLong n (ascending_rows tuples)
 AreLong-ascending_rows n tuples long = All-ascending_rows (λ r. length r ≡ n) n tuples long long
@@ -175,19 +178,19 @@ AreLong-ascending_rows n tuples long = All-ascending_rows (λ r. length r ≡ n)
 pub ascending-ascending_rows : (n : ℕ) (tuples : List (List ℕ)) → AreLong n tuples → AllPairs IsBefore (ascending_rows tuples)
 ascending-ascending_rows n [] long = AllPairs-nil IsBefore
 ascending-ascending_rows n (t ∷ ts) long =
-    let tail-long = All-tail (λ r. length r ≡ n) t ts long in
-    ascending-with_row n t (ascending_rows ts) (All-head (λ r. length r ≡ n) t ts long) (AreLong-ascending_rows n ts tail-long) (ascending-ascending_rows n ts tail-long)
+    let tail_long = All-tail (λ r. length r ≡ n) t ts long in
+    ascending-with_row n t (ascending_rows ts) (All-head (λ r. length r ≡ n) t ts long) (AreLong-ascending_rows n ts tail_long) (ascending-ascending_rows n ts tail_long)
 
 pub Contains-ascending_rows : (n : ℕ) (u : List ℕ) (tuples : List (List ℕ)) → AreLong n tuples → Contains tuples u → Contains (ascending_rows tuples) u
 Contains-ascending_rows n u [] long inside = inside
 Contains-ascending_rows n u (t ∷ ts) long inside =
-    let tail-long = All-tail (λ r. length r ≡ n) t ts long in
-    let t-long = All-head (λ r. length r ≡ n) t ts long in
-    let rest = Contains-ascending_rows n u ts tail-long in
-    let rows-long = AreLong-ascending_rows n ts tail-long in
+    let tail_long = All-tail (λ r. length r ≡ n) t ts long in
+    let t_long = All-head (λ r. length r ≡ n) t ts long in
+    let rest = Contains-ascending_rows n u ts tail_long in
+    let rows_long = AreLong-ascending_rows n ts tail_long in
     elim (Contains-cons_cases t u ts inside) [
-      inl first ↦ subst (λ v. Contains (with_row t (ascending_rows ts)) v) first (Contains-with_row n t (ascending_rows ts) t-long rows-long)
-    | inr behind ↦ Contains-with_row_old n t u (ascending_rows ts) t-long rows-long (rest behind)
+      | inl first ↦ subst (λ v. Contains (with_row t (ascending_rows ts)) v) first (Contains-with_row n t (ascending_rows ts) t_long rows_long)
+      | inr behind ↦ Contains-with_row_old n t u (ascending_rows ts) t_long rows_long (rest behind)
     ]
 
 pub Contains-from_ascending_rows : (n : ℕ) (u : List ℕ) (tuples : List (List ℕ)) → AreLong n tuples → Contains (ascending_rows tuples) u → Contains tuples u
@@ -203,6 +206,63 @@ pub ascending_rows-ascending : (rows : List (List ℕ)) → AllPairs IsBefore ro
 ascending_rows-ascending [] ascending = refl
 ascending_rows-ascending (row ∷ rows) ascending =
     ap (with_row row) (ascending_rows-ascending rows (AllPairs-tail IsBefore row rows ascending)) ∙ with_row-first row rows (AllPairs-head IsBefore row rows ascending)
+
+-- the tuple stands at the place
+pub record IsPlaceOf (t : List ℕ) (rows : List (List ℕ)) (i : ℕ) : Type 0 where
+  pub inside : i < length rows
+  pub found : get_or rows i t ≡ t
+
+-- the tuple is new, and goes to the place
+pub record IsGapFor (t : List ℕ) (rows : List (List ℕ)) (i : ℕ) : Type 0 where
+  pub within : i ≤ length rows
+  pub inserted : with_row t rows ≡ insert rows i t
+  pub new : Contains rows t → ⊥
+
+at_most_two : (answer : Ordering) → ordering_index answer ≤ 2
+at_most_two Less = omega arith
+at_most_two Equal = omega arith
+at_most_two Greater = omega arith
+
+equal_lists : (xs ys : List ℕ) → slice_cmp nat_cmp xs ys ≡ Equal → xs ≡ ys
+equal_lists xs ys equal = (is_eq-decides xs ys).0 (ap is_eq equal)
+
+not_equal : (xs ys : List ℕ) → xs ≡ ys → (slice_cmp nat_cmp xs ys ≡ Less) ⊎ (slice_cmp nat_cmp xs ys ≡ Greater) → ⊥
+not_equal xs ys same unequal =
+    let equal = slice_cmp-same xs ys same in
+    elim unequal [ inl less ↦ absurd (cc) | inr more ↦ absurd (cc) ]
+
+index_behind : (r u t : List ℕ) → length r ≡ length t → IsBefore r u → ordering_index (slice_cmp nat_cmp r t) ≤ ordering_index (slice_cmp nat_cmp u t)
+index_behind r u t long before =
+    elim (order_of r t long) [
+      | Before first ↦ rw (slice_cmp-before r t first) (omega arith)
+      | Same same ↦ rw (slice_cmp-after u t (subst (λ v. IsBefore v u) same before)) (at_most_two (slice_cmp nat_cmp r t))
+      | After after ↦ rw (slice_cmp-after u t (IsBefore-trans t r u after before)) (at_most_two (slice_cmp nat_cmp r t))
+    ]
+
+-- ascending rows, compared with one tuple, are first less, then equal, then greater
+pub rising_rows : (n : ℕ) (t : List ℕ) (rows : List (List ℕ)) → length t ≡ n → AreLong n rows → AllPairs IsBefore rows → IsNonDecreasingBy (λ row. ordering_index (slice_cmp nat_cmp row t)) rows
+rising_rows n t rows long rows_long ascending = λ i j d less inside.
+    elim (cases_lt i j) [
+      | inl earlier ↦ index_behind (get_or rows i d) (get_or rows j d) t (rows_long i d (omega arith) ∙ sym long) (ascending i j d earlier inside)
+      | inr later ↦ let one : i ≡ j = omega arith in rw one (omega arith)
+    ]
+
+gap_at : (t : List ℕ) (rows : List (List ℕ)) (n i : ℕ) → length t ≡ n → AreLong n rows → i ≤ length rows → IsPartitionPoint (λ row. slice_cmp nat_cmp row t ≡ Less) (λ row. slice_cmp nat_cmp row t ≡ Greater) rows i → IsGapFor t rows i
+gap_at t rows n i long rows_long within parted = record {
+  within = within;
+  inserted = with_row-insert t rows i within
+      (λ k d less. before-slice_cmp (get_or rows k d) t (rows_long k d (omega arith) ∙ sym long) (parted.0 k d (omega arith) less))
+      (λ k d more inside. after-slice_cmp (get_or rows k d) t (rows_long k d inside ∙ sym long) (parted.1 k d more inside));
+  new = λ member. not_equal (get_or rows member.0 t) t member.2 (elim (cases_lt member.0 i) [
+    | inl less ↦ inl (parted.0 member.0 t (omega arith) less)
+    | inr more ↦ inr (parted.1 member.0 t more member.1)
+  ]);
+}
+
+-- what `binary_search` answers in ascending rows: the place of the tuple, or the place where it goes
+pub searched_rows : (n : ℕ) (t : List ℕ) (rows : List (List ℕ)) (answer : Result ℕ ℕ) → length t ≡ n → AreLong n rows → AllPairs IsBefore rows → IsSearchInRange answer (length rows) → IsBinarySearchResult (λ row. slice_cmp nat_cmp row t) rows answer → MatchResult answer (IsPlaceOf t rows) (IsGapFor t rows)
+searched_rows n t rows (Ok i) long rows_long ascending bound found = record { inside = bound; found = equal_lists (get_or rows i t) t (found t) }
+searched_rows n t rows (Err i) long rows_long ascending bound found = gap_at t rows n i long rows_long bound (found (rising_rows n t rows long rows_long ascending))
 
 -- few rows
 
@@ -252,7 +312,7 @@ IsRelation-with_row r t is tuple =
       some_places = is.some_places;
       few_places = is.few_places;
       tuples = All-with_row (IsTuple r.domain r.arity) r.arity t r.rows tuple.long long tuple is.tuples;
-      ascending = ascending-with_row r.arity t r.rows tuple.long long is.ascending
+      ascending = ascending-with_row r.arity t r.rows tuple.long long is.ascending;
     }
 
 pub IsRelationOver-with_row : (d : ℕ) (r : RelationView) (t : List ℕ) → IsRelationOver d r → IsTuple r.domain r.arity t → IsRelationOver d (relation_with_row r t)
@@ -294,16 +354,16 @@ relations-with_row_at_last d t e (f ∷ rest) all tuple =
 -- the names are distinct where the names are distinct
 distinct_names : (relations : List Named) → AllPairs (λ e f. e.0 ≢ f.0) relations → AllPairs (λ a b. a ≢ b) (map (λ e. e.0) relations)
 distinct_names relations distinct = λ i j d less inside same.
-    let j-inside : j < length relations = omega (arith, length-map relations (λ e. e.0)) in
-    let i-inside : i < length relations = omega arith in
-    distinct i j (d, no_relation) less j-inside
-    (sym (get_or-map (λ e. e.0) relations i (d, no_relation) d i-inside) ∙ (same ∙ get_or-map (λ e. e.0) relations j (d, no_relation) d j-inside))
+    let j_inside : j < length relations = omega (arith, length-map relations (λ e. e.0)) in
+    let i_inside : i < length relations = omega arith in
+    distinct i j (d, no_relation) less j_inside
+    (sym (get_or-map (λ e. e.0) relations i (d, no_relation) d i_inside) ∙ (same ∙ get_or-map (λ e. e.0) relations j (d, no_relation) d j_inside))
 
 distinct_relations : (relations : List Named) → AllPairs (λ a b. a ≢ b) (map (λ e. e.0) relations) → AllPairs (λ e f. e.0 ≢ f.0) relations
 distinct_relations relations distinct = λ i j d less inside same.
-    let i-inside : i < length relations = omega arith in
+    let i_inside : i < length relations = omega arith in
     distinct i j d.0 less (omega (arith, length-map relations (λ e. e.0)))
-    (get_or-map (λ e. e.0) relations i d d.0 i-inside ∙ (same ∙ sym (get_or-map (λ e. e.0) relations j d d.0 inside)))
+    (get_or-map (λ e. e.0) relations i d d.0 i_inside ∙ (same ∙ sym (get_or-map (λ e. e.0) relations j d d.0 inside)))
 
 pub names_of-with_last_row : (lang : LanguageView) (t : List ℕ) → names_of (with_last_row lang t) ≡ names_of lang
 names_of-with_last_row lang t = names-with_row_at_last t lang.relations
@@ -335,7 +395,7 @@ pub IsLanguage-with_last_row : (lang : LanguageView) (t : List ℕ) → IsLangua
 IsLanguage-with_last_row lang t is tuple = record {
   domain_is = is.domain_is;
   relations_are = relations_kept lang.domain t lang.relations is.relations_are tuple;
-  distinct = distinct_relations (with_row_at_last t lang.relations) (subst (λ names. AllPairs (λ a b. a ≢ b) names) (sym (names-with_row_at_last t lang.relations)) (distinct_names lang.relations is.distinct))
+  distinct = distinct_relations (with_row_at_last t lang.relations) (subst (λ names. AllPairs (λ a b. a ≢ b) names) (sym (names-with_row_at_last t lang.relations)) (distinct_names lang.relations is.distinct));
 }
 
 pub names_of-with_relation : (lang : LanguageView) (name : List ℕ) (r : RelationView) → names_of (with_relation lang name r) ≡ names_of lang ++ name ∷ []
@@ -349,7 +409,7 @@ IsLanguage-with_relation lang name r is over new = record {
   domain_is = is.domain_is;
   relations_are = All-push (λ e. IsRelationOver lang.domain e.1) lang.relations (name, r) is.relations_are over;
   distinct = all_pairs_push (λ e f. e.0 ≢ f.0) lang.relations (name, r) is.distinct (λ k d inside same.
-    new (k, omega (arith, length-map lang.relations (λ e. e.0)), get_or-map (λ e. e.0) lang.relations k d name inside ∙ same))
+      new (k, omega (arith, length-map lang.relations (λ e. e.0)), get_or-map (λ e. e.0) lang.relations k d name inside ∙ same));
 }
 
 -- a relation that is begun has no rows
@@ -359,9 +419,32 @@ IsRelation-begun d arity domain some few = record {
   some_places = some;
   few_places = few;
   tuples = All-nil (IsTuple d arity);
-  ascending = AllPairs-nil IsBefore
+  ascending = AllPairs-nil IsBefore;
 }
 
 -- a language that is begun has no relations
 pub IsLanguage-begun : (d : ℕ) → IsDomain d → IsLanguage (record { domain = d; relations = [] })
 IsLanguage-begun d domain = record { domain_is = domain; relations_are = All-nil (λ e. IsRelationOver d e.1); distinct = AllPairs-nil (λ e f. e.0 ≢ f.0) }
+
+pub IsRelationOver-relation_of : (lang : LanguageView) (r : ℕ) → IsLanguage lang → r < length lang.relations → IsRelationOver lang.domain (relation_of lang r)
+IsRelationOver-relation_of lang r is inside = is.relations_are r ([], no_relation) inside
+
+-- the further relation is the last
+pub relation_of-with_relation : (lang : LanguageView) (name : List ℕ) (r : RelationView) → relation_of (with_relation lang name r) (length lang.relations) ≡ r
+relation_of-with_relation lang name r = ap (λ e. e.1) (get_or_push lang.relations (name, r) ([], no_relation) (length lang.relations) refl)
+
+-- the other relations stay
+pub relation_of-with_relation_other : (lang : LanguageView) (name : List ℕ) (r : RelationView) (i : ℕ) → i < length lang.relations → relation_of (with_relation lang name r) i ≡ relation_of lang i
+relation_of-with_relation_other lang name r i inside = ap (λ e. e.1) (get_or_append_left lang.relations ((name, r) ∷ []) ([], no_relation) i inside)
+
+-- the relation of the tuples
+pub IsRelation-ascending_rows : (d arity : ℕ) (tuples : List (List ℕ)) → IsDomain d → 1 ≤ arity → arity ≤ 6 → All (IsTuple d arity) tuples → IsRelation (record { domain = d; arity = arity; rows = ascending_rows tuples })
+IsRelation-ascending_rows d arity tuples domain some few are =
+    let long = AreLong-tuples d arity tuples are in
+    record {
+      domain_is = domain;
+      some_places = some;
+      few_places = few;
+      tuples = All-ascending_rows (IsTuple d arity) arity tuples long are;
+      ascending = ascending-ascending_rows arity tuples long;
+    }
