@@ -1,13 +1,14 @@
 -- The lines and tokens of a text, taken one by one from its front.
 use Rattle.std.proofs.Common.{◌≡◌, ◌≢◌, ℕ, zero, suc, inl, inr, cond, ◌+◌, ◌-◌, ◌*◌, ◌^◌, ◌<◌, ◌≤◌, Bool, true, false, not, eqb, List, [], ◌∷◌, ◌++◌, length, get_or, take, drop, map, refl, ap, sym, ◌∙◌, arith, rules}
-use Rattle.std.proofs.lemmas.Bool.{cases_Bool, eq-eqb, ne_eqb, eqb-true, leb-true, and_parts, not-true, ltb-true, ltb-false}
+use Rattle.std.proofs.lemmas.Bool.{cases_Bool, eq-eqb, ne_eqb, eqb-true, leb-true, le-leb, and_parts, not-true, ltb-true, ltb-false}
 use Rattle.std.proofs.lemmas.List.Recursion.{is_count_by}
 use Rattle.std.proofs.Math.Nat.{pow-suc, pow-zero}
-use Rattle.std.proofs.Common.{one-add, ltb, leb, ◌&&◌, Option, Some, None, unwrap_or, length-append}
+use Rattle.std.proofs.Common.{one-add, ltb, leb, ◌&&◌, Option, Some, None, unwrap_or, length-append, length-drop}
+use Rattle.std.proofs.lemmas.List.{nil_from_length, map_more}
 use Rattle.std.specs.Prelude.{count_by}
 use Rattle.std.specs.List.{position_or_len, list_all}
 use Rattle.pol_defs.specs.Tuples.{cell_of}
-use Rattle.pol_defs.specs.Lines.{is_digit, is_number, grown, lines_of, without_last, line_text, is_blank, begins_solid, tokens_of, is_significant, LineView, significant_among}
+use Rattle.pol_defs.specs.Lines.{is_letter, is_name_byte, is_name, is_digit, is_number, grown, lines_of, without_last, line_text, is_blank, begins_solid, tokens_of, is_significant, LineView, significant_among}
 
 -- ---- lines
 
@@ -107,6 +108,13 @@ without_last-other b (c ∷ d ∷ bs) other =
     let rest = without_last-other b (d ∷ bs) (λ front e. other (c ∷ front) (ap (λ (xs : List ℕ). c ∷ xs) e)) in
     ap (λ (xs : List ℕ). c ∷ xs) rest
 
+pub length-without_last-le : (b : ℕ) (bs : List ℕ) → length (without_last b bs) ≤ length bs
+length-without_last-le b [] = omega arith
+length-without_last-le b (c ∷ []) = elim (cases_Bool (eqb c b)) [ inl e ↦ rw e (omega arith) | inr e ↦ rw e (omega arith) ]
+length-without_last-le b (c ∷ d ∷ bs) =
+    let rest = length-without_last-le b (d ∷ bs) in
+    omega arith
+
 -- ---- tokens
 
 abbrev pub is_solid : ℕ → Bool
@@ -124,13 +132,12 @@ pub begins_solid-blanks : (bs : List ℕ) → position_or_len is_solid bs < leng
 begins_solid-blanks [] some = absurd (omega arith)
 begins_solid-blanks (b ∷ bs) some =
     elim (cases_Bool (is_blank b)) [
-      | inl e ↦
-          let further = rw e at some in
-          let inside : position_or_len is_solid bs < length bs = omega (arith, further) in
-          let rest = begins_solid-blanks bs inside in
-          rw (e, one-add) rest
-      | inr e ↦ rw (e, e) refl
-    ]
+      inl e ↦
+        let further = rw e at some in
+        let inside : position_or_len is_solid bs < length bs = omega (arith, further) in
+        let rest = begins_solid-blanks bs inside in
+        rw (e, one-add) rest
+    | inr e ↦ rw (e, e) refl ]
 
 no_token : (bs : List ℕ) → begins_solid bs ≡ false → position_or_len is_blank bs ≡ 0
 no_token [] blank = refl
@@ -142,9 +149,24 @@ tokens_of-first [] solid = absurd (cc)
 tokens_of-first (b ∷ bs) solid =
     let start : is_blank b ≡ false = not-true (is_blank b) solid in
     elim (cases_Bool (begins_solid bs)) [
-      | inl e ↦ let rest = tokens_of-first bs e in rw (start, e, one-add, rest)
-      | inr e ↦ let none = no_token bs e in rw (start, e, none)
-    ]
+      inl e ↦ let rest = tokens_of-first bs e in rw (start, e, one-add, rest)
+    | inr e ↦ let none = no_token bs e in rw (start, e, none) ]
+
+-- there is no token where all are blank
+pub tokens_of-none : (bs behind : List ℕ) → behind ≡ drop (position_or_len is_solid bs) bs → length behind ≡ 0 → tokens_of bs ≡ []
+tokens_of-none bs behind is none =
+    let passed = tokens_of-blanks bs in
+    let empty = nil_from_length behind none in
+    rw (passed, ← is, empty)
+
+-- the first token stands behind the blanks
+pub tokens_of-next : (bs behind token rest : List ℕ) → behind ≡ drop (position_or_len is_solid bs) bs → 0 < length behind → token ≡ take (position_or_len is_blank behind) behind → rest ≡ drop (position_or_len is_blank behind) behind → tokens_of bs ≡ token ∷ tokens_of rest
+tokens_of-next bs behind token rest is some token_is rest_is =
+    let inside : position_or_len is_solid bs < length bs = omega (arith, ap length is, length-drop (position_or_len is_solid bs) bs) in
+    let solid : begins_solid behind ≡ true = rw is (begins_solid-blanks bs inside) in
+    let first = tokens_of-first behind solid in
+    let passed = tokens_of-blanks bs in
+    rw (passed, ← is, token_is, rest_is) first
 
 -- no token is empty
 pub length-tokens_of-le : (bs : List ℕ) → length (tokens_of bs) ≤ length bs
@@ -152,9 +174,8 @@ length-tokens_of-le [] = omega arith
 length-tokens_of-le (b ∷ bs) =
     let rest = length-tokens_of-le bs in
     elim (cases_Bool (is_blank b)) [
-      | inl e ↦ rw e (omega arith)
-      | inr e ↦ elim (cases_Bool (begins_solid bs)) [ inl f ↦ rw (e, f) (pieces_le b (tokens_of bs) (length bs) rest) | inr f ↦ rw (e, f) (omega arith) ]
-    ]
+      inl e ↦ rw e (omega arith)
+    | inr e ↦ elim (cases_Bool (begins_solid bs)) [ inl f ↦ rw (e, f) (pieces_le b (tokens_of bs) (length bs) rest) | inr f ↦ rw (e, f) (omega arith) ] ]
 
 pub position_or_len-le : (test : ℕ → Bool) (bs : List ℕ) → position_or_len test bs ≤ length bs
 position_or_len-le test [] = omega arith
@@ -167,9 +188,8 @@ pub position_or_len-found : (test : ℕ → Bool) (bs : List ℕ) (r : Option �
 position_or_len-found test bs r found =
     let within = position_or_len-le test bs in
     elim (cases_Bool (ltb (position_or_len test bs) (length bs))) [
-      | inl e ↦ let is : r ≡ Some (position_or_len test bs) = rw e at found in rw is refl
-      | inr e ↦ let is : r ≡ None = rw e at found in rw is (omega (arith, ltb-false _ _ e))
-    ]
+      inl e ↦ let is : r ≡ Some (position_or_len test bs) = rw e at found in rw is refl
+    | inr e ↦ let is : r ≡ None = rw e at found in rw is (omega (arith, ltb-false _ _ e)) ]
 
 -- ---- significant lines
 
@@ -180,6 +200,10 @@ pub significant_among-found : (number place : ℕ) (bs line rest : List ℕ) →
 significant_among-found number place bs line rest first found = rw (first, found)
 
 -- ---- numbers
+
+-- where the length is right, the bytes decide
+pub is_number-digits : (bs : List ℕ) → 0 < length bs → length bs ≤ 9 → is_number bs ≡ list_all is_digit bs
+is_number-digits bs some few = rw (le-leb 1 (length bs) some, le-leb (length bs) 9 few)
 
 -- a number has at most nine digits
 pub IsNumber-short : (bs : List ℕ) → is_number bs ≡ true → length bs ≤ 9
@@ -204,6 +228,14 @@ IsNumber-digit bs i number small =
     let digit = and_parts (leb 48 (get_or bs i 0)) (leb (get_or bs i 0) 57) (digit_at bs i parts.1 small) in
     record { low = leb-true 48 (get_or bs i 0) digit.0; high = leb-true (get_or bs i 0) 57 digit.1 }
 
+
+-- where the first byte is a letter and the length is right, the other bytes decide
+pub is_name-bytes : (bs rest : List ℕ) → 0 < length bs → rest ≡ drop 1 bs → is_letter (get_or bs 0 0) ≡ true → length rest ≤ 31 → is_name bs ≡ list_all is_name_byte rest
+is_name-bytes [] rest some is letter few = absurd (omega arith)
+is_name-bytes (b ∷ bs) rest some is letter few =
+    let short : length bs ≤ 31 = rw is at few in
+    rw (is, letter, le-leb (length bs) 31 short)
+
 one_more : (y power next cell grown d x : ℕ) → next ≡ power * d → grown ≡ cell * d + x → y * next + grown ≡ (y * power + cell) * d + x
 one_more y power next cell grown d x powers cells = grind arith
 
@@ -213,3 +245,7 @@ cell_of-one_more d [] x = rw (pow-zero d) (omega arith)
 cell_of-one_more d (y ∷ xs) x =
     let long : length (xs ++ x ∷ []) ≡ suc (length xs) = omega (arith, length-append xs (x ∷ [])) in
     rw long (one_more y (d ^ length xs) (d ^ suc (length xs)) (cell_of d xs) (cell_of d (xs ++ x ∷ [])) d x (pow-suc d (length xs)) (cell_of-one_more d xs x))
+
+-- one digit more of the number that the bytes write
+pub cell_of-digit_more : (bs : List ℕ) (i : ℕ) → i < length bs → cell_of 10 (map (λ b. b - 48) (take (i + 1) bs)) ≡ cell_of 10 (map (λ b. b - 48) (take i bs)) * 10 + (get_or bs i 0 - 48)
+cell_of-digit_more bs i small = rw (map_more (λ b. b - 48) bs i 0 small) (cell_of-one_more 10 (map (λ b. b - 48) (take i bs)) (get_or bs i 0 - 48))

@@ -1,5 +1,6 @@
-ghost use Rattle.std.specs.Prelude.{◌≡◌, ◌++◌, decimal, OnOk, OnErr};
-ghost use Rattle.pol_defs.specs.Lines.{number_of};
+ghost use Rattle.std.specs.Prelude.{◌≡◌, ◌++◌, ◌-◌, map, decimal, IsTrue, OnOk, OnErr};
+ghost use Rattle.pol_defs.specs.Lines.{number_of, is_number};
+ghost use Rattle.pol_defs.specs.Tuples.{cell_of};
 
 use itoa::Buffer;
 use pol_base::{NoMemory, Values};
@@ -10,14 +11,32 @@ const MOST_DIGITS: usize = 9;
 pub fn number(token: &[u8]) -> Option<u32>
     ensures number { result ≡ number_of token.now }
 {
-    if token.is_empty() || MOST_DIGITS < token.len() || !token.iter().all(u8::is_ascii_digit) {
-        return None;
+    if is_number(token) {
+        Some(value(token))
+    } else {
+        None
     }
-    let mut number = 0u32;
-    for digit in token {
-        number = number * 10 + u32::from(*digit - b'0');
+}
+
+fn is_number(token: &[u8]) -> bool
+    ensures number { result ≡ is_number token.now }
+{
+    if token.is_empty() || MOST_DIGITS < token.len() {
+        return false;
     }
-    Some(number)
+    token.iter().all(u8::is_ascii_digit)
+}
+
+/// The number that the digits write.
+fn value(digits: &[u8]) -> u32
+    requires number { IsTrue (is_number digits.now) }
+    ensures value { result ≡ cell_of 10 (map (λ b. b - 48) digits.now) }
+{
+    let mut value = 0u32;
+    for digit in digits {
+        value = value * 10 + u32::from(*digit - b'0');
+    }
+    value
 }
 
 /// Appends the decimal digits of the number.

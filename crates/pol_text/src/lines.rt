@@ -1,6 +1,6 @@
-ghost use Rattle.std.specs.Prelude.{◌≡◌, ℕ, ◌+◌, ◌<◌, ◌^◌, List, length, slice_get, option_map};
+ghost use Rattle.std.specs.Prelude.{◌≡◌, ℕ, ◌+◌, ◌<◌, ◌≤◌, ◌==◌, ◌^◌, List, ◌∷◌, length, take, drop, count_by, slice_get, option_map};
 ghost use Rattle.std.specs.Iterator.{YieldsFirst, item_count};
-ghost use Rattle.pol_defs.specs.Lines.{LineView, lines_of, line_text, tokens_of, is_significant, significant_among, significant_lines};
+ghost use Rattle.pol_defs.specs.Lines.{LineView, lines_of, without_last, line_text, tokens_of, is_significant, significant_among, significant_lines};
 
 use crate::Tokens;
 use memchr::memchr;
@@ -19,7 +19,7 @@ impl<'a> Model for Line<'a> {
 
     ghost view = { λ l. record { number = l.number; tokens = tokens_of l.text.now; after = l.after } };
 
-    ghost invariant = { λ l. l.number + 1 < 2 ^ 32 };
+    ghost invariant = { λ l. (l.number + 1 < 2 ^ 32) × (length l.text.now < 2 ^ 64) };
 }
 
 impl<'a> Line<'a> {
@@ -47,6 +47,7 @@ impl<'a> Line<'a> {
     /// The tokens, from left to right.
     pub fn tokens(&self) -> Tokens<'a>
         ensures tokens { result ≡ self.now.tokens }
+        ensures few { length result < 2 ^ 64 }
     {
         Tokens::new(self.text)
     }
@@ -126,15 +127,26 @@ pub fn count_lines(bytes: &[u8]) -> u32
     requires room { length bytes.now < 2 ^ 32 }
     ensures lines { result ≡ length (lines_of bytes.now) }
 {
-    let ended = bytes.iter().filter(|byte| **byte == b'\n').count() as u32;
-    match bytes.last() {
-        None | Some(b'\n') => ended,
-        Some(_) => ended + 1,
-    }
+    let Some(last) = bytes.last() else {
+        return 0;
+    };
+    let ended = line_ends(bytes) as u32;
+    if *last == b'\n' { ended } else { ended + 1 }
+}
+
+/// How many bytes are an LF.
+fn line_ends(bytes: &[u8]) -> usize
+    ensures ends { result ≡ count_by (λ b. b == 10) bytes.now }
+{
+    bytes.iter().filter(|byte| **byte == b'\n').count()
 }
 
 /// How long the first line is, its LF included.
-fn line_length(bytes: &[u8]) -> usize {
+fn line_length(bytes: &[u8]) -> usize
+    ensures within { result ≤ length bytes.now }
+    ensures some { 0 < length bytes.now → 0 < result }
+    ensures first { 0 < length bytes.now → lines_of bytes.now ≡ take result bytes.now ∷ lines_of (drop result bytes.now) }
+{
     match memchr(b'\n', bytes) {
         Some(place) => place + 1,
         None => bytes.len(),
@@ -144,9 +156,17 @@ fn line_length(bytes: &[u8]) -> usize {
 /// The line without its LF, and without one CR at its end.
 fn without_end(line: &[u8]) -> &[u8]
     ensures text { result.now ≡ line_text line.now }
+    ensures shorter { length result.now ≤ length line.now }
 {
-    let text = line.strip_suffix(b"\n").unwrap_or(line);
-    text.strip_suffix(b"\r").unwrap_or(text)
+    without_last(without_last(line, b'\n'), b'\r')
+}
+
+/// The bytes without the last one, where that is this byte.
+fn without_last(bytes: &[u8], byte: u8) -> &[u8]
+    ensures front { result.now ≡ without_last byte bytes.now }
+    ensures shorter { length result.now ≤ length bytes.now }
+{
+    bytes.strip_suffix(&[byte]).unwrap_or(bytes)
 }
 
 /// Whether a line of this text is significant: it has a token, and the first one begins no comment.

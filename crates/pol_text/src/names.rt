@@ -8,14 +8,13 @@ const MOST_BYTES: usize = 32;
 pub fn is_name(token: &[u8]) -> bool
     ensures name { result ≡ is_name token.now }
 {
-    match token {
-        [] => false,
-        [first, rest @ ..] => {
-            first.is_ascii_alphabetic()
-                && rest.len() < MOST_BYTES
-                && rest.iter().all(|byte| is_name_byte(*byte))
-        }
+    let [first, rest @ ..] = token else {
+        return false;
+    };
+    if !first.is_ascii_alphabetic() || MOST_BYTES <= rest.len() {
+        return false;
     }
+    rest.iter().all(|byte| is_name_byte(*byte))
 }
 
 fn is_name_byte(byte: u8) -> bool

@@ -1,6 +1,7 @@
-ghost use Rattle.std.specs.Prelude.{◌≡◌, ℕ, List};
+ghost use Rattle.std.specs.Prelude.{◌≡◌, ◌≤◌, ℕ, List, length, not};
 ghost use Rattle.std.specs.Iterator.{YieldsFirstBy, item_count};
-ghost use Rattle.pol_defs.specs.Lines.{tokens_of};
+ghost use Rattle.std.specs.List.{position_or_len};
+ghost use Rattle.pol_defs.specs.Lines.{tokens_of, is_blank};
 
 use std::marker::Model;
 
@@ -33,19 +34,39 @@ impl<'a> Iterator for Tokens<'a> {
     ghost remaining = { item_count (λ t. t) };
 
     fn next(&mut self) -> Option<&'a [u8]> {
-        let start = self.rest.iter().position(|byte| !is_blank(*byte))?;
-        let behind = &self.rest[start..];
-        let length = behind
-            .iter()
-            .position(|byte| is_blank(*byte))
-            .unwrap_or(behind.len());
-        let (token, rest) = behind.split_at(length);
+        let (_, behind) = self.rest.split_at(blank_length(self.rest));
+        if behind.is_empty() {
+            return None;
+        }
+        let (token, rest) = behind.split_at(solid_length(behind));
         self.rest = rest;
         Some(token)
     }
 }
 
+/// How many blanks stand at the front.
+fn blank_length(text: &[u8]) -> usize
+    ensures length { result ≡ position_or_len (λ b. not (is_blank b)) text.now }
+    ensures within { result ≤ length text.now }
+{
+    text.iter()
+        .position(|byte| !is_blank(*byte))
+        .unwrap_or(text.len())
+}
+
+/// How long the token is that stands at the front.
+fn solid_length(text: &[u8]) -> usize
+    ensures length { result ≡ position_or_len is_blank text.now }
+    ensures within { result ≤ length text.now }
+{
+    text.iter()
+        .position(|byte| is_blank(*byte))
+        .unwrap_or(text.len())
+}
+
 /// A space or a tab.
-pub(crate) fn is_blank(byte: u8) -> bool {
+pub(crate) fn is_blank(byte: u8) -> bool
+    ensures blank { result ≡ is_blank byte }
+{
     byte == b' ' || byte == b'\t'
 }
