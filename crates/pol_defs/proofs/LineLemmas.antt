@@ -108,13 +108,6 @@ without_last-other b (c ∷ d ∷ bs) other =
     let rest = without_last-other b (d ∷ bs) (λ front e. other (c ∷ front) (ap (λ (xs : List ℕ). c ∷ xs) e)) in
     ap (λ (xs : List ℕ). c ∷ xs) rest
 
-pub length-without_last-le : (b : ℕ) (bs : List ℕ) → length (without_last b bs) ≤ length bs
-length-without_last-le b [] = omega arith
-length-without_last-le b (c ∷ []) = elim (cases_Bool (eqb c b)) [ inl e ↦ rw e (omega arith) | inr e ↦ rw e (omega arith) ]
-length-without_last-le b (c ∷ d ∷ bs) =
-    let rest = length-without_last-le b (d ∷ bs) in
-    omega arith
-
 -- ---- tokens
 
 abbrev pub is_solid : ℕ → Bool

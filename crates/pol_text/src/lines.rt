@@ -19,7 +19,7 @@ impl<'a> Model for Line<'a> {
 
     ghost view = { λ l. record { number = l.number; tokens = tokens_of l.text.now; after = l.after } };
 
-    ghost invariant = { λ l. (l.number + 1 < 2 ^ 32) × (length l.text.now < 2 ^ 64) };
+    ghost invariant = { λ l. l.number + 1 < 2 ^ 32 };
 }
 
 impl<'a> Line<'a> {
@@ -156,7 +156,6 @@ fn line_length(bytes: &[u8]) -> usize
 /// The line without its LF, and without one CR at its end.
 fn without_end(line: &[u8]) -> &[u8]
     ensures text { result.now ≡ line_text line.now }
-    ensures shorter { length result.now ≤ length line.now }
 {
     without_last(without_last(line, b'\n'), b'\r')
 }
@@ -164,7 +163,6 @@ fn without_end(line: &[u8]) -> &[u8]
 /// The bytes without the last one, where that is this byte.
 fn without_last(bytes: &[u8], byte: u8) -> &[u8]
     ensures front { result.now ≡ without_last byte bytes.now }
-    ensures shorter { length result.now ≤ length bytes.now }
 {
     bytes.strip_suffix(&[byte]).unwrap_or(bytes)
 }

@@ -3,7 +3,7 @@ use Rattle.std.specs.Prelude.{MatchOption}
 use Rattle.std.proofs.lemmas.Bool.Decides.{Decides-eqb}
 use Rattle.std.proofs.lemmas.Slice.Eq.{strip_suffix_is}
 use Rattle.pol_defs.specs.Lines.{without_last}
-use Rattle.pol_defs.proofs.LineLemmas.{length-without_last-le, without_last-push, without_last-other}
+use Rattle.pol_defs.proofs.LineLemmas.{without_last-push, without_last-other}
 use Rattle.pol_text.proofs.lines.without_last.Goals as goal
 
 -- what is left is the front where the byte ends the list, and the list where it does not
@@ -11,8 +11,5 @@ front_of : (b : ℕ) (bs : Bor (List ℕ)) (front : Option (Bor (List ℕ))) →
 front_of b bs None other = sym (without_last-other b bs.now other)
 front_of b bs (Some x) is = rw is (sym (without_last-push b x.now))
 
-pub returns-clause-front : goal.returns-clause-front
-returns-clause-front c = rw c.unwrap_or.ensures (front_of c.args.byte c.args.bytes c.strip_suffix.result (strip_suffix_is Decides-eqb _ _ _ c.strip_suffix.ensures.cases))
-
-pub returns-clause-shorter : goal.returns-clause-shorter
-returns-clause-shorter c = let front = returns-clause-front c in rw front (length-without_last-le c.args.byte c.args.bytes.now)
+pub returns : goal.returns
+returns c = record { front = rw c.unwrap_or.ensures (front_of c.args.byte c.args.bytes c.strip_suffix.result (strip_suffix_is Decides-eqb _ _ _ c.strip_suffix.ensures.cases)) }
