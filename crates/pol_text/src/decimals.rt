@@ -47,3 +47,24 @@ pub fn put_number(out: &mut Values, n: u64) -> Result<(), NoMemory>
     let mut buffer = Buffer::new();
     out.append(buffer.format(n).as_bytes())
 }
+
+#[cfg(test)]
+mod tests {
+    use super::*;
+
+    #[test]
+    fn reads_one_to_nine_digits(rt: HostRuntime) {
+        let cases = [
+            (b"".as_slice(), None),
+            (b"0".as_slice(), Some(0)),
+            (b"007".as_slice(), Some(7)),
+            (b"999999999".as_slice(), Some(999_999_999)),
+            (b"0000000001".as_slice(), None),
+            (b"1a".as_slice(), None),
+            (b"-1".as_slice(), None),
+        ];
+        for (token, value) in cases {
+            assert_eq!(rt; number(token), value, "at {token:?}");
+        }
+    }
+}

@@ -176,3 +176,35 @@ fn begins_significant(text: &[u8]) -> bool
         None => false,
     }
 }
+
+#[cfg(test)]
+mod tests {
+    use super::*;
+
+    #[test]
+    fn counts_the_last_line_without_an_lf(rt: HostRuntime) {
+        let cases = [
+            (b"".as_slice(), 0),
+            (b"\n\n\n".as_slice(), 3),
+            (b"a\nb".as_slice(), 2),
+            (b"a\r\nb\r\n".as_slice(), 2),
+            (b"\r".as_slice(), 1),
+        ];
+        for (text, lines) in cases {
+            assert_eq!(rt; count_lines(text), lines, "at {text:?}");
+        }
+    }
+
+    #[test]
+    fn passes_over_comments_and_blank_lines(rt: HostRuntime) {
+        let text = b"# head\n a\tb  c \r\n\r\n\r\r\nx\0y z\n\t#no\nend #t";
+        let mut lines = significant(text, 1);
+        for expected in [(2, 3, 17), (4, 1, 22), (5, 2, 28), (7, 2, 39)] {
+            let found = lines
+                .next()
+                .map(|line| (line.number(), line.count(), line.after()));
+            assert_eq!(rt; found, Some(expected));
+        }
+        assert!(rt; lines.next().is_none());
+    }
+}

@@ -65,7 +65,7 @@ fn solid_length(text: &[u8]) -> usize
 }
 
 /// A space or a tab.
-pub(crate) fn is_blank(byte: u8) -> bool
+fn is_blank(byte: u8) -> bool
     ensures blank { result ≡ is_blank byte }
 {
     byte == b' ' || byte == b'\t'

@@ -1,5 +1,5 @@
-use Rattle.std.proofs.Common.{◌≡◌, ◌≢◌, ◌-◌, ◌<◌, ◌∙◌, suc, sym, length, get_or, arith}
-use Rattle.pol_defs.proofs.LineLemmas.{length-lines_of-ended, length-lines_of-open, length-lines_of-le}
+use Rattle.std.proofs.Common.{◌≡◌, ◌≢◌, ◌-◌, ◌∙◌, suc, sym, length, get_or, arith}
+use Rattle.pol_defs.proofs.LineLemmas.{length-lines_of-ended, length-lines_of-open}
 use Rattle.pol_text.proofs.lines.count_lines.Goals as goal
 
 pub returns-then-last-eq10 : goal.returns-then-last-eq10

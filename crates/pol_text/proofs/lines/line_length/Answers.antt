@@ -1,4 +1,4 @@
-use Rattle.std.proofs.Common.{◌≡◌, List, length, arith, add-one}
+use Rattle.std.proofs.Common.{length, arith, add-one}
 use Rattle.std.proofs.lemmas.Bool.{false_from_ne_true}
 use Rattle.std.proofs.lemmas.List.{take_all, drop_all}
 use Rattle.pol_defs.proofs.LineLemmas.{lines_of-first, lines_of-whole}
