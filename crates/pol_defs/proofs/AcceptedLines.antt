@@ -1,0 +1,167 @@
+-- What a line writes that the grammar accepts: its tokens, and what was read from them.
+use Rattle.std.proofs.Common.{◌≡◌, ℕ, suc, ◌+◌, ◌-◌, ◌<◌, ◌≤◌, Bool, true, false, ltb, leb, eqb, not, ◌&&◌, cond, List, [], ◌∷◌, length, drop, map, Option, Some, None, Result, Ok, Err, All, Contains, refl, sym, ap, ap₂, ◌∙◌, subst, arith, codes, length-drop}
+use Rattle.std.proofs.lemmas.Bool.{eqb-true, leb-true, ltb-true, and_parts, not-true}
+use Rattle.std.proofs.lemmas.Bool.Decides.{not_from_Decides}
+use Rattle.std.proofs.lemmas.List.Elements.{All-nil, All-cons}
+use Rattle.pol_defs.specs.Tuples.{IsDomain, IsTuple}
+use Rattle.pol_defs.specs.Relations.{LanguageView, IsLanguage, names_of, last_of, has_name, has_row, with_row, with_relation, with_last_row}
+use Rattle.pol_defs.specs.Lines.{token_at, number_of, is_name}
+use Rattle.pol_defs.specs.Refusals.{Word}
+use Rattle.pol_defs.specs.Refusals.Word.{NoHeader, BadVersion, BadDomain, BadLine, BadNumber, BadName, RepeatedName, BadArity, ValueOutside, ShortTuple, LongTuple, TooManyRelations, TooManyTuples}
+use Rattle.pol_defs.specs.Grammar.{unless, after_number, after_values, begins_with, header_line, domain_line, relation_line, values_of, with_tuple, tuple_line, end_line}
+use Rattle.pol_defs.specs.Spelling.{Write}
+use Rattle.pol_defs.proofs.RelationLemmas.{AreLong, is_same-decides, has_row-decides, has_name-decides, length-with_row_new, with_row-there}
+
+-- a test that was passed
+pub record PassedTest {A : Type 0} (test : Bool) (next : Result A Word) (found : A) : Type 0 where
+  pub passed : test ≡ true
+  pub went_on : next ≡ Ok found
+
+pub unless-ok : {A : Type 0} (test : Bool) (word : Word) (next : Result A Word) (found : A) → unless test word next ≡ Ok found → PassedTest test next found
+unless-ok true word next found e = record { passed = refl; went_on = e }
+unless-ok false word next found e = cc
+
+-- a value that was read
+pub record PassedValue {A B : Type 0} (next : A → Result B Word) (found : B) (Read : A → Type 0) : Type 0 where
+  pub value : A
+  pub read : Read value
+  pub went_on : next value ≡ Ok found
+
+pub after_number-ok : {A : Type 0} (number : Option ℕ) (word : Word) (next : ℕ → Result A Word) (found : A) → after_number number word next ≡ Ok found → PassedValue next found (λ n. number ≡ Some n)
+after_number-ok None word next found e = cc
+after_number-ok (Some n) word next found e = record { value = n; read = refl; went_on = e }
+
+pub after_values-ok : {A : Type 0} (values : Result (List ℕ) Word) (next : List ℕ → Result A Word) (found : A) → after_values values next ≡ Ok found → PassedValue next found (λ vs. values ≡ Ok vs)
+after_values-ok (Err word) next found e = cc
+after_values-ok (Ok vs) next found e = record { value = vs; read = refl; went_on = e }
+
+-- ---- tokens
+
+one_token : (tokens : List (List ℕ)) → length tokens ≡ 1 → tokens ≡ token_at tokens 0 ∷ []
+one_token [] long = absurd (omega arith)
+one_token (a ∷ []) long = refl
+one_token (a ∷ b ∷ rest) long = absurd (omega arith)
+
+two_tokens : (tokens : List (List ℕ)) → length tokens ≡ 2 → tokens ≡ token_at tokens 0 ∷ token_at tokens 1 ∷ []
+two_tokens [] long = absurd (omega arith)
+two_tokens (a ∷ rest) long = ap (λ ts. a ∷ ts) (one_token rest (omega arith))
+
+three_tokens : (tokens : List (List ℕ)) → length tokens ≡ 3 → tokens ≡ token_at tokens 0 ∷ token_at tokens 1 ∷ token_at tokens 2 ∷ []
+three_tokens [] long = absurd (omega arith)
+three_tokens (a ∷ rest) long = ap (λ ts. a ∷ ts) (two_tokens rest (omega arith))
+
+pub begins_with-first : (keyword : List ℕ) (tokens : List (List ℕ)) → begins_with keyword tokens ≡ true → token_at tokens 0 ≡ keyword
+begins_with-first keyword tokens begins = (is_same-decides (token_at tokens 0) keyword).0 begins
+
+pub begins_with-rest : (keyword : List ℕ) (tokens : List (List ℕ)) → 0 < length keyword → token_at tokens 0 ≡ keyword → tokens ≡ keyword ∷ drop 1 tokens
+begins_with-rest keyword [] some first = absurd (let none : length keyword ≡ 0 = ap length (sym first) in omega arith)
+begins_with-rest keyword (a ∷ rest) some first = ap (λ t. t ∷ rest) first
+
+-- ---- lines
+
+-- the keyword and a token that writes the number
+pub record WritesNumber (keyword : List ℕ) (tokens : List (List ℕ)) (n : ℕ) : Type 0 where
+  pub number : List ℕ
+  pub number_is : number_of number ≡ Some n
+  pub tokens_are : tokens ≡ keyword ∷ number ∷ []
+
+number_line : (keyword : List ℕ) (tokens : List (List ℕ)) (n : ℕ) → begins_with keyword tokens ≡ true → eqb (length tokens) 2 ≡ true → number_of (token_at tokens 1) ≡ Some n → WritesNumber keyword tokens n
+number_line keyword tokens n begins long number =
+    record {
+      number = token_at tokens 1;
+      number_is = number;
+      tokens_are = two_tokens tokens (eqb-true (length tokens) 2 long) ∙ ap (λ t. t ∷ token_at tokens 1 ∷ []) (begins_with-first keyword tokens begins)
+    }
+
+pub header_line-writes : (tokens : List (List ℕ)) (found : ℕ) → header_line tokens ≡ Ok found → WritesNumber (codes "polyanna") tokens 1
+unfolding header_line
+header_line-writes tokens found e =
+    let keyword = unless-ok (begins_with (codes "polyanna") tokens) NoHeader _ found e in
+    let long = unless-ok (eqb (length tokens) 2) BadVersion _ found keyword.went_on in
+    let number = after_number-ok (number_of (token_at tokens 1)) BadVersion _ found long.went_on in
+    let one = unless-ok (eqb number.value 1) BadVersion _ found number.went_on in
+    number_line (codes "polyanna") tokens 1 keyword.passed long.passed (number.read ∙ ap (λ n. Some n) (eqb-true number.value 1 one.passed))
+
+pub record WritesDomain (tokens : List (List ℕ)) (d : ℕ) : Type 0 where
+  pub line : WritesNumber (codes "domain") tokens d
+  pub domain_is : IsDomain d
+
+pub domain_line-writes : (tokens : List (List ℕ)) (d : ℕ) → domain_line tokens ≡ Ok d → WritesDomain tokens d
+unfolding domain_line
+domain_line-writes tokens d e =
+    let keyword = unless-ok (begins_with (codes "domain") tokens) BadLine _ d e in
+    let long = unless-ok (eqb (length tokens) 2) BadLine _ d keyword.went_on in
+    let number = after_number-ok (number_of (token_at tokens 1)) BadNumber _ d long.went_on in
+    let within = unless-ok (leb 1 number.value && leb number.value 5) BadDomain _ d number.went_on in
+    let bounds = and_parts (leb 1 number.value) (leb number.value 5) within.passed in
+    let same : number.value ≡ d = cc in
+    subst (WritesDomain tokens) same (record {
+      line = number_line (codes "domain") tokens number.value keyword.passed long.passed number.read;
+      domain_is = record { some = leb-true 1 number.value bounds.0; few = leb-true number.value 5 bounds.1 }
+    })
+
+pub end_line-writes : (tokens : List (List ℕ)) (found : ℕ) → begins_with (codes "end") tokens ≡ true → end_line tokens ≡ Ok found → tokens ≡ codes "end" ∷ []
+end_line-writes tokens found begins e =
+    let long = unless-ok (eqb (length tokens) 1) BadLine _ found e in
+    one_token tokens (eqb-true (length tokens) 1 long.passed) ∙ ap (λ t. t ∷ []) (begins_with-first (codes "end") tokens begins)
+
+-- a new name and an arity, with which the language goes on
+pub record WritesRelation (lang : LanguageView) (tokens : List (List ℕ)) (next : LanguageView) : Type 0 where
+  pub name : List ℕ
+  pub arity_token : List ℕ
+  pub arity : ℕ
+  pub is_name : is_name name ≡ true
+  pub is_new : Contains (names_of lang) name → ⊥
+  pub arity_is : number_of arity_token ≡ Some arity
+  pub some_places : 1 ≤ arity
+  pub few_places : arity ≤ 6
+  pub few_relations : length lang.relations < 32
+  pub tokens_are : tokens ≡ token_at tokens 0 ∷ name ∷ arity_token ∷ []
+  pub next_is : next ≡ with_relation lang name (record { domain = lang.domain; arity = arity; rows = [] })
+
+pub relation_line-writes : (lang : LanguageView) (tokens : List (List ℕ)) (next : LanguageView) → relation_line lang tokens ≡ Ok next → WritesRelation lang tokens next
+unfolding relation_line
+relation_line-writes lang tokens next e =
+    let name = token_at tokens 1 in
+    let long = unless-ok (eqb (length tokens) 3) BadLine _ next e in
+    let named = unless-ok (is_name name) BadName _ next long.went_on in
+    let new = unless-ok (not (has_name lang name)) RepeatedName _ next named.went_on in
+    let number = after_number-ok (number_of (token_at tokens 2)) BadNumber _ next new.went_on in
+    let within = unless-ok (leb 1 number.value && leb number.value 6) BadArity _ next number.went_on in
+    let few = unless-ok (ltb (length lang.relations) 32) TooManyRelations _ next within.went_on in
+    let bounds = and_parts (leb 1 number.value) (leb number.value 6) within.passed in
+    record {
+      name = name;
+      arity_token = token_at tokens 2;
+      arity = number.value;
+      is_name = named.passed;
+      is_new = not_from_Decides (has_name lang name) (has_name-decides lang name) (not-true (has_name lang name) new.passed);
+      arity_is = number.read;
+      some_places = leb-true 1 number.value bounds.0;
+      few_places = leb-true number.value 6 bounds.1;
+      few_relations = ltb-true (length lang.relations) 32 few.passed;
+      tokens_are = three_tokens tokens (eqb-true (length tokens) 3 long.passed);
+      next_is = cc
+    }
+
+-- the tokens write values of the domain
+pub record WriteValues (d : ℕ) (tokens : List (List ℕ)) (values : List ℕ) : Type 0 where
+  pub write : Write tokens values
+  pub long : length values ≡ length tokens
+  pub below : All (λ v. v < d) values
+
+pub values_of-write : (d : ℕ) (tokens : List (List ℕ)) (values : List ℕ) → values_of d tokens ≡ Ok values → WriteValues d tokens values
+values_of-write d [] values e =
+    let same : [] ≡ values = cc in
+    subst (WriteValues d []) same (record { write = refl; long = refl; below = All-nil (λ v. v < d) })
+values_of-write d (t ∷ ts) values e =
+    let number = after_number-ok (number_of t) BadNumber _ values e in
+    let inside = unless-ok (ltb number.value d) ValueOutside _ values number.went_on in
+    let later = after_values-ok (values_of d ts) _ values inside.went_on in
+    let rest = values_of-write d ts later.value later.read in
+    let same : number.value ∷ later.value ≡ values = cc in
+    subst (WriteValues d (t ∷ ts)) same (record {
+      write = ap₂ (λ v vs. v ∷ vs) number.read rest.write;
+      long = ap suc rest.long;
+      below = All-cons (λ v. v < d) number.value later.value (ltb-true number.value d inside.passed) rest.below
+    })
