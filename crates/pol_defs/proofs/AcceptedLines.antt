@@ -1,16 +1,17 @@
 -- What a line writes that the grammar accepts: its tokens, and what was read from them.
-use Rattle.std.proofs.Common.{◌≡◌, ℕ, suc, ◌+◌, ◌-◌, ◌<◌, ◌≤◌, Bool, true, false, ltb, leb, eqb, not, ◌&&◌, cond, List, [], ◌∷◌, length, drop, map, Option, Some, None, Result, Ok, Err, All, Contains, refl, sym, ap, ap₂, ◌∙◌, subst, arith, codes, length-drop}
+use Rattle.std.proofs.Common.{◌≡◌, ℕ, suc, ◌+◌, ◌-◌, ◌<◌, ◌≤◌, Bool, true, false, ltb, leb, eqb, not, ◌&&◌, cond, List, [], ◌∷◌, length, drop, map, Option, Some, None, Result, Ok, Err, All, Contains, get_or, refl, sym, ap, ap₂, ◌∙◌, subst, arith, codes, length-drop}
+use Rattle.std.specs.Bool.{Decides}
 use Rattle.std.proofs.lemmas.Bool.{eqb-true, leb-true, ltb-true, and_parts, not-true}
 use Rattle.std.proofs.lemmas.Bool.Decides.{not_from_Decides}
 use Rattle.std.proofs.lemmas.List.Elements.{All-nil, All-cons}
 use Rattle.pol_defs.specs.Tuples.{IsDomain, IsTuple}
-use Rattle.pol_defs.specs.Relations.{LanguageView, IsLanguage, names_of, last_of, has_name, has_row, with_row, with_relation, with_last_row}
+use Rattle.pol_defs.specs.Relations.{RelationView, IsRelation, LanguageView, no_relation, names_of, last_of, has_name, has_row, with_row, with_relation, with_row_at_last, with_last_row}
 use Rattle.pol_defs.specs.Lines.{token_at, number_of, is_name}
 use Rattle.pol_defs.specs.Refusals.{Word}
 use Rattle.pol_defs.specs.Refusals.Word.{NoHeader, BadVersion, BadDomain, BadLine, BadNumber, BadName, RepeatedName, BadArity, ValueOutside, ShortTuple, LongTuple, TooManyRelations, TooManyTuples}
 use Rattle.pol_defs.specs.Grammar.{unless, after_number, after_values, begins_with, header_line, domain_line, relation_line, values_of, with_tuple, tuple_line, end_line}
 use Rattle.pol_defs.specs.Spelling.{Write}
-use Rattle.pol_defs.proofs.RelationLemmas.{AreLong, is_same-decides, has_row-decides, has_name-decides, length-with_row_new, with_row-there}
+use Rattle.pol_defs.proofs.RelationLemmas.{AreLong, AreLong-tuples, is_same-decides, has_row-decides, has_name-decides, length-with_row_new, with_row-there}
 
 -- a test that was passed
 pub record PassedTest {A : Type 0} (test : Bool) (next : Result A Word) (found : A) : Type 0 where
@@ -165,3 +166,64 @@ values_of-write d (t ∷ ts) values e =
       long = ap suc rest.long;
       below = All-cons (λ v. v < d) number.value later.value (ltb-true number.value d inside.passed) rest.below
     })
+
+-- the tuple is a row of the last relation, of few rows, with which the language goes on
+pub record WritesRow (lang : LanguageView) (t : List ℕ) (next : LanguageView) : Type 0 where
+  pub few : length (with_row t (last_of lang).rows) ≤ 128
+  pub next_is : next ≡ with_last_row lang t
+
+-- with a tuple that is there the last relation stays
+with_row_at_last-there : (t : List ℕ) (e : List ℕ × RelationView) (rest : List (List ℕ × RelationView)) → (let last = get_or (e ∷ rest) (length rest) ([], no_relation) in with_row t last.1.rows ≡ last.1.rows) → with_row_at_last t (e ∷ rest) ≡ e ∷ rest
+with_row_at_last-there t e [] same = ap (λ rows. (e.0, record { domain = e.1.domain; arity = e.1.arity; rows = rows }) ∷ []) same
+with_row_at_last-there t e (f ∷ rest) same = ap (λ relations. e ∷ relations) (with_row_at_last-there t f rest same)
+
+relations-there : (t : List ℕ) (relations : List (List ℕ × RelationView)) → (let last = get_or relations (length relations - 1) ([], no_relation) in with_row t last.1.rows ≡ last.1.rows) → with_row_at_last t relations ≡ relations
+relations-there t [] same = refl
+relations-there t (e ∷ rest) same =
+    let last : suc (length rest) - 1 ≡ length rest = omega arith in
+    with_row_at_last-there t e rest (rw last at same)
+
+with_last_row-there : (lang : LanguageView) (t : List ℕ) → with_row t (last_of lang).rows ≡ (last_of lang).rows → with_last_row lang t ≡ lang
+with_last_row-there lang t same = ap (λ relations. record { domain = lang.domain; relations = relations }) (relations-there t lang.relations same)
+
+pub with_tuple-writes : (lang : LanguageView) (t : List ℕ) (next : LanguageView) → IsRelation (last_of lang) → length (last_of lang).rows ≤ 128 → length t ≡ (last_of lang).arity → with_tuple lang t ≡ Ok next → WritesRow lang t next
+unfolding with_tuple
+with_tuple-writes lang t next is few long e = by_test (has_row (last_of lang).rows t) (has_row-decides (last_of lang).rows t) e
+  where
+    rows-long : AreLong (last_of lang).arity (last_of lang).rows
+    rows-long = AreLong-tuples (last_of lang).domain (last_of lang).arity (last_of lang).rows is.tuples
+
+    by_test : (there : Bool) → Decides there (Contains (last_of lang).rows t) → cond there (Ok lang) (unless (ltb (length (last_of lang).rows) 128) TooManyTuples (Ok (with_last_row lang t))) ≡ Ok next → WritesRow lang t next
+    by_test true decides h =
+        let same = with_row-there (last_of lang).arity t (last_of lang).rows long rows-long is.ascending (decides.0 refl) in
+        let goes_on : lang ≡ next = cc in
+        record { few = rw same few; next_is = sym goes_on ∙ sym (with_last_row-there lang t same) }
+    by_test false decides h =
+        let room = unless-ok (ltb (length (last_of lang).rows) 128) TooManyTuples (Ok (with_last_row lang t)) next h in
+        let below = ltb-true (length (last_of lang).rows) 128 room.passed in
+        let longer = length-with_row_new (last_of lang).arity t (last_of lang).rows long rows-long (not_from_Decides false decides refl) in
+        record { few = omega arith; next_is = cc }
+
+-- a tuple of the last relation, each value by its token
+pub record WritesTuple (lang : LanguageView) (tokens : List (List ℕ)) (next : LanguageView) : Type 0 where
+  pub values : List ℕ
+  pub write : Write (drop 1 tokens) values
+  pub tuple : IsTuple lang.domain (last_of lang).arity values
+  pub row : WritesRow lang values next
+
+pub tuple_line-writes : (lang : LanguageView) (tokens : List (List ℕ)) (next : LanguageView) → IsRelation (last_of lang) → length (last_of lang).rows ≤ 128 → tuple_line lang tokens ≡ Ok next → WritesTuple lang tokens next
+unfolding tuple_line
+tuple_line-writes lang tokens next is few e =
+    let enough = unless-ok (leb (last_of lang).arity (length tokens - 1)) ShortTuple _ next e in
+    let no_more = unless-ok (leb (length tokens - 1) (last_of lang).arity) LongTuple _ next enough.went_on in
+    let values = after_values-ok (values_of lang.domain (drop 1 tokens)) (with_tuple lang) next no_more.went_on in
+    let written = values_of-write lang.domain (drop 1 tokens) values.value values.read in
+    let low = leb-true (last_of lang).arity (length tokens - 1) enough.passed in
+    let high = leb-true (length tokens - 1) (last_of lang).arity no_more.passed in
+    let long : length values.value ≡ (last_of lang).arity = omega (arith, written.long, length-drop 1 tokens) in
+    record {
+      values = values.value;
+      write = written.write;
+      tuple = record { long = long; below = written.below };
+      row = with_tuple-writes lang values.value next is few long values.went_on
+    }
