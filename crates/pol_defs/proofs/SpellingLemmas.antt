@@ -1,5 +1,5 @@
 -- What is accepted is spelled so.
-use Rattle.std.proofs.Common.{◌≡◌, ℕ, suc, ◌-◌, ◌<◌, ◌≤◌, Bool, true, false, cond, nat_lt, ◌&&◌, List, [], ◌∷◌, ◌++◌, length, map, flat_map, drop, get_or, Some, Result, Ok, Err, All, Any, Contains, refl, sym, ap, ap₂, ◌∙◌, subst, arith, codes, append_assoc, append-nil}
+use Rattle.std.proofs.Common.{◌≡◌, ℕ, suc, ◌+◌, ◌-◌, ◌<◌, ◌≤◌, Bool, true, false, cond, nat_lt, ◌&&◌, List, [], ◌∷◌, ◌++◌, length, map, flat_map, drop, get_or, Some, Result, Ok, Err, All, Any, Contains, refl, sym, ap, ap₂, ◌∙◌, subst, arith, codes, append_assoc, append-nil}
 use Rattle.std.specs.List.{AllZip}
 use Rattle.std.proofs.lemmas.Bool.{ltb-true, and_parts}
 use Rattle.std.proofs.lemmas.List.{map_push, length_push}
@@ -97,9 +97,10 @@ few-with_row : (t : List ℕ) (relations : List Named) → All (λ e. length e.1
 few-with_row t [] all few = all
 few-with_row t (e ∷ es) all few = All-with_row_at_last (λ f. length f.1.rows ≤ 128) t e es all (rw (last_place (length es)) at few)
 
-lines_of-with_line : (tokens : List (List ℕ)) (blocks : List Block) → 0 < length blocks → flat_map block_lines (with_line_at_last tokens blocks) ≡ flat_map block_lines blocks ++ (codes "tuple" ∷ tokens) ∷ []
-lines_of-with_line tokens [] some = absurd (omega arith)
-lines_of-with_line tokens (b ∷ bs) some = lines-with_line_at_last tokens b bs
+lines_of-with_line : (tokens : List (List ℕ)) (blocks : List Block) (relations : List Named) → 0 < length relations → AllZip Spells blocks relations → flat_map block_lines (with_line_at_last tokens blocks) ≡ flat_map block_lines blocks ++ (codes "tuple" ∷ tokens) ∷ []
+lines_of-with_line tokens [] [] some spell = absurd (omega arith)
+lines_of-with_line tokens [] (e ∷ es) some spell = absurd spell
+lines_of-with_line tokens (b ∷ bs) relations some spell = lines-with_line_at_last tokens b bs
 
 -- ---- the lines of a language
 
@@ -157,3 +158,120 @@ said-relation d lines lang tokens next said first writes = subst (SaidBy d (line
 
     block : Block
     block = record { name = writes.name; arity = writes.arity_token; tuples = [] }
+
+said-tuple : (d : ℕ) (lines : List (List (List ℕ))) (lang : LanguageView) (tokens : List (List ℕ)) (next : LanguageView) → SaidBy d lines lang → 0 < length lang.relations → IsRelationOver lang.domain (last_of lang) → token_at tokens 0 ≡ codes "tuple" → WritesTuple lang tokens next → SaidBy d (lines ++ tokens ∷ []) next
+said-tuple d lines lang tokens next said some over first writes = subst (SaidBy d (lines ++ tokens ∷ [])) (sym writes.row.next_is) (record {
+  blocks = with_line_at_last (drop 1 tokens) said.blocks;
+  lines_are = ap₂ (λ all line. all ++ line ∷ []) said.lines_are (begins_with-rest (codes "tuple") tokens (omega arith) first) ∙ sym (lines_of-with_line (drop 1 tokens) said.blocks lang.relations some said.relations_are);
+  relations_are = blocks-with_line (drop 1 tokens) writes.values said.blocks lang.relations said.relations_are fits writes.write;
+  within = record {
+    is_language = IsLanguage-with_last_row lang writes.values said.within.is_language (subst (λ k. IsTuple k (last_of lang).arity writes.values) (sym over.same_domain) writes.tuple);
+    few_relations = omega (arith, said.within.few_relations, length-with_last_row lang writes.values);
+    few_tuples = few-with_row writes.values lang.relations said.within.few_tuples writes.row.few
+  };
+  domain_is = said.domain_is
+})
+  where
+    fits : FitsRows writes.values (last_named lang.relations)
+    fits = record { long = writes.tuple.long; rows_long = AreLong-tuples (last_of lang).domain (last_of lang).arity (last_of lang).rows over.is_relation.tuples }
+
+-- an accepted line is one of the lines that say the language with what it adds
+said-entry : (d : ℕ) (lines : List (List (List ℕ))) (lang : LanguageView) (tokens : List (List ℕ)) (next : LanguageView) → SaidBy d lines lang → entry_line lang tokens ≡ Ok next → SaidBy d (lines ++ tokens ∷ []) next
+unfolding entry_line
+said-entry d lines lang tokens next said e = by_keyword (begins_with (codes "relation") tokens) (begins_with-first (codes "relation") tokens) e
+  where
+    at_last : 0 < length lang.relations → length lang.relations - 1 < length lang.relations
+    at_last some = omega arith
+
+    by_keyword : (t : Bool) → (t ≡ true → token_at tokens 0 ≡ codes "relation") → cond t (relation_line lang tokens) (unless (begins_with (codes "tuple") tokens && nat_lt 0 (length lang.relations)) BadLine (tuple_line lang tokens)) ≡ Ok next → SaidBy d (lines ++ tokens ∷ []) next
+    by_keyword true first h = said-relation d lines lang tokens next said (first refl) (relation_line-writes lang tokens next h)
+    by_keyword false first h =
+        let allowed = unless-ok (begins_with (codes "tuple") tokens && nat_lt 0 (length lang.relations)) BadLine (tuple_line lang tokens) next h in
+        let parts = and_parts (begins_with (codes "tuple") tokens) (nat_lt 0 (length lang.relations)) allowed.passed in
+        let some = ltb-true 0 (length lang.relations) parts.1 in
+        let over = All-get_or (λ e. IsRelationOver lang.domain e.1) lang.relations (length lang.relations - 1) ([], no_relation) (at_last some) said.within.is_language.relations_are in
+        let few = All-get_or (λ e. length e.1.rows ≤ 128) lang.relations (length lang.relations - 1) ([], no_relation) (at_last some) said.within.few_tuples in
+        said-tuple d lines lang tokens next said some over (begins_with-first (codes "tuple") tokens parts.0) (tuple_line-writes lang tokens next over.is_relation few allowed.went_on)
+
+-- the lines behind the earlier ones, up to the one behind which the file ends, say the rest of it
+record SaidToEnd (d : ℕ) (earlier : List (List (List ℕ))) (lines : List LineView) (found : Parsed) : Type 0 where
+  front : List LineView
+  last : LineView
+  rest : List LineView
+  lines_are : lines ≡ front ++ last ∷ rest
+  said : SaidBy d (earlier ++ map (λ l. l.tokens) front) found.file.language
+  last_is : last.tokens ≡ codes "end" ∷ []
+  place_is : found.place ≡ last.after
+
+said-at_end : (d : ℕ) (earlier : List (List (List ℕ))) (lang : LanguageView) (l : LineView) (ls : List LineView) (line : ℕ) → SaidBy d earlier lang → l.tokens ≡ codes "end" ∷ [] → SaidToEnd d earlier (l ∷ ls) (record { file = record { language = lang }; place = l.after; line = line })
+said-at_end d earlier lang l ls line said ends = record {
+  front = [];
+  last = l;
+  rest = ls;
+  lines_are = refl;
+  said = subst (λ lines. SaidBy d lines lang) (sym (append-nil earlier)) said;
+  last_is = ends;
+  place_is = refl
+}
+
+said-before : (d : ℕ) (earlier : List (List (List ℕ))) (l : LineView) (ls : List LineView) (found : Parsed) → SaidToEnd d (earlier ++ l.tokens ∷ []) ls found → SaidToEnd d earlier (l ∷ ls) found
+said-before d earlier l ls found later = record {
+  front = l ∷ later.front;
+  last = later.last;
+  rest = later.rest;
+  lines_are = ap (λ some. l ∷ some) later.lines_are;
+  said = subst (λ lines. SaidBy d lines found.file.language) (append_assoc earlier (l.tokens ∷ []) (map (λ line. line.tokens) later.front)) later.said;
+  last_is = later.last_is;
+  place_is = later.place_is
+}
+
+rest_of_file-said : (d : ℕ) (earlier : List (List (List ℕ))) (lang : LanguageView) (last : ℕ) (ls : List LineView) (found : Parsed) → SaidBy d earlier lang → rest_of_file lang last ls ≡ Ok found → SaidToEnd d earlier ls found
+rest_of_file-said d earlier lang last [] found said e = cc
+rest_of_file-said d earlier lang last (l ∷ ls) found said e = by_keyword (begins_with (codes "end") l.tokens) refl (λ next said_next h. rest_of_file-said d (earlier ++ l.tokens ∷ []) next last ls found said_next h) e
+  where
+    by_keyword : (t : Bool) → begins_with (codes "end") l.tokens ≡ t → ((next : LanguageView) → SaidBy d (earlier ++ l.tokens ∷ []) next → rest_of_file next last ls ≡ Ok found → SaidToEnd d (earlier ++ l.tokens ∷ []) ls found) → cond t (after_line l (end_line l.tokens) (λ _. Ok (record { file = record { language = lang }; place = l.after; line = l.number + 1 }))) (after_line l (entry_line lang l.tokens) (λ next. rest_of_file next last ls)) ≡ Ok found → SaidToEnd d earlier (l ∷ ls) found
+    by_keyword true begins later h =
+        let p = after_line-ok l (end_line l.tokens) (λ _. Ok (record { file = record { language = lang }; place = l.after; line = l.number + 1 })) found h in
+        let same : record { file = record { language = lang }; place = l.after; line = l.number + 1 } ≡ found = cc in
+        subst (SaidToEnd d earlier (l ∷ ls)) same (said-at_end d earlier lang l ls (l.number + 1) said (end_line-writes l.tokens p.value begins p.accepted))
+    by_keyword false begins later h =
+        let p = after_line-ok l (entry_line lang l.tokens) (λ next. rest_of_file next last ls) found h in
+        said-before d earlier l ls found (later p.value (said-entry d earlier lang l.tokens p.value said p.accepted) p.went_on)
+
+-- ---- files
+
+file-spelled : (h k : LineView) (ls : List LineView) (d : ℕ) (found : Parsed) → WritesNumber (codes "polyanna") h.tokens 1 → WritesNumber (codes "domain") k.tokens d → SaidToEnd d [] ls found → IsSpelled (h ∷ k ∷ ls) found
+file-spelled h k ls d found header domain to_end = record {
+  version = header.number;
+  domain = domain.number;
+  blocks = to_end.said.blocks;
+  front = h ∷ k ∷ to_end.front;
+  last = to_end.last;
+  rest = to_end.rest;
+  version_is = header.number_is;
+  domain_is = domain.number_is ∙ ap (λ n. Some n) (sym to_end.said.domain_is);
+  relations_are = to_end.said.relations_are;
+  within = to_end.said.within;
+  lines_are = ap (λ some. h ∷ k ∷ some) to_end.lines_are;
+  front_is = ap₂ (λ line lines. line ∷ lines) header.tokens_are (ap₂ (λ line lines. line ∷ lines) domain.tokens_are to_end.said.lines_are);
+  last_is = to_end.last_is;
+  place_is = to_end.place_is
+}
+
+-- a text that the grammar accepts is spelled as the file that it gives
+pub parse-spelled : (bytes : List ℕ) (found : Parsed) → parse bytes ≡ Ok found → IsSpelled (significant_lines 1 bytes) found
+unfolding parse
+parse-spelled bytes found e = by_header (length (lines_of bytes) + 1) (significant_lines 1 bytes) e
+  where
+    by_domain : (last : ℕ) (h : LineView) (ls : List LineView) → WritesNumber (codes "polyanna") h.tokens 1 → file_from_domain last ls ≡ Ok found → IsSpelled (h ∷ ls) found
+    by_domain last h [] header e = cc
+    by_domain last h (k ∷ ls) header e =
+        let p = after_line-ok k (domain_line k.tokens) (λ d. rest_of_file (record { domain = d; relations = [] }) last ls) found e in
+        let domain = domain_line-writes k.tokens p.value p.accepted in
+        file-spelled h k ls p.value found header domain.line (rest_of_file-said p.value [] (record { domain = p.value; relations = [] }) last ls found (said-begun p.value domain.domain_is) p.went_on)
+
+    by_header : (last : ℕ) (ls : List LineView) → file_of last ls ≡ Ok found → IsSpelled ls found
+    by_header last [] e = cc
+    by_header last (h ∷ ls) e =
+        let p = after_line-ok h (header_line h.tokens) (λ _. file_from_domain last ls) found e in
+        by_domain last h ls (header_line-writes h.tokens p.value p.accepted) p.went_on
