@@ -1,5 +1,5 @@
 -- What a line writes that the grammar accepts: its tokens, and what was read from them.
-use Rattle.std.proofs.Common.{◌≡◌, ℕ, suc, ◌+◌, ◌-◌, ◌<◌, ◌≤◌, Bool, true, false, ltb, leb, eqb, not, ◌&&◌, cond, List, [], ◌∷◌, length, drop, map, Option, Some, None, Result, Ok, Err, All, Contains, get_or, refl, sym, ap, ap₂, ◌∙◌, subst, arith, codes, length-drop}
+use Rattle.std.proofs.Common.{◌≡◌, ℕ, suc, ◌-◌, ◌<◌, ◌≤◌, Bool, true, false, ltb, leb, eqb, not, ◌&&◌, cond, List, [], ◌∷◌, length, drop, Option, Some, None, Result, Ok, Err, All, Contains, get_or, refl, sym, ap, ap₂, ◌∙◌, subst, arith, codes, length-drop}
 use Rattle.std.specs.Bool.{Decides}
 use Rattle.std.proofs.lemmas.Bool.{eqb-true, leb-true, ltb-true, and_parts, not-true}
 use Rattle.std.proofs.lemmas.Bool.Decides.{not_from_Decides}
@@ -71,7 +71,7 @@ number_line keyword tokens n begins long number =
     record {
       number = token_at tokens 1;
       number_is = number;
-      tokens_are = two_tokens tokens (eqb-true (length tokens) 2 long) ∙ ap (λ t. t ∷ token_at tokens 1 ∷ []) (begins_with-first keyword tokens begins)
+      tokens_are = two_tokens tokens (eqb-true (length tokens) 2 long) ∙ ap (λ t. t ∷ token_at tokens 1 ∷ []) (begins_with-first keyword tokens begins);
     }
 
 pub header_line-writes : (tokens : List (List ℕ)) (found : ℕ) → header_line tokens ≡ Ok found → WritesNumber (codes "polyanna") tokens 1
@@ -98,7 +98,7 @@ domain_line-writes tokens d e =
     let same : number.value ≡ d = cc in
     subst (WritesDomain tokens) same (record {
       line = number_line (codes "domain") tokens number.value keyword.passed long.passed number.read;
-      domain_is = record { some = leb-true 1 number.value bounds.0; few = leb-true number.value 5 bounds.1 }
+      domain_is = record { some = leb-true 1 number.value bounds.0; few = leb-true number.value 5 bounds.1 };
     })
 
 pub end_line-writes : (tokens : List (List ℕ)) (found : ℕ) → begins_with (codes "end") tokens ≡ true → end_line tokens ≡ Ok found → tokens ≡ codes "end" ∷ []
@@ -142,7 +142,7 @@ relation_line-writes lang tokens next e =
       few_places = leb-true number.value 6 bounds.1;
       few_relations = ltb-true (length lang.relations) 32 few.passed;
       tokens_are = three_tokens tokens (eqb-true (length tokens) 3 long.passed);
-      next_is = cc
+      next_is = cc;
     }
 
 -- the tokens write values of the domain
@@ -164,7 +164,7 @@ values_of-write d (t ∷ ts) values e =
     subst (WriteValues d (t ∷ ts)) same (record {
       write = ap₂ (λ v vs. v ∷ vs) number.read rest.write;
       long = ap suc rest.long;
-      below = All-cons (λ v. v < d) number.value later.value (ltb-true number.value d inside.passed) rest.below
+      below = All-cons (λ v. v < d) number.value later.value (ltb-true number.value d inside.passed) rest.below;
     })
 
 -- the tuple is a row of the last relation, of few rows, with which the language goes on
@@ -225,5 +225,5 @@ tuple_line-writes lang tokens next is few e =
       values = values.value;
       write = written.write;
       tuple = record { long = long; below = written.below };
-      row = with_tuple-writes lang values.value next is few long values.went_on
+      row = with_tuple-writes lang values.value next is few long values.went_on;
     }

@@ -1,21 +1,31 @@
--- What is accepted is spelled so.
-use Rattle.std.proofs.Common.{◌≡◌, ℕ, suc, ◌+◌, ◌-◌, ◌<◌, ◌≤◌, Bool, true, false, cond, nat_lt, ◌&&◌, List, [], ◌∷◌, ◌++◌, length, map, flat_map, drop, get_or, Some, Result, Ok, Err, All, Any, Contains, refl, sym, ap, ap₂, ◌∙◌, subst, arith, codes, append_assoc, append-nil}
+-- A text that the grammar accepts is spelled as its file: line by line, the lines so far are those of blocks that say the language so far.
+use Rattle.std.proofs.Common.{◌≡◌, ℕ, suc, ◌+◌, ◌-◌, ◌<◌, ◌≤◌, Bool, true, false, cond, nat_lt, ◌&&◌, List, [], ◌∷◌, ◌++◌, length, map, flat_map, drop, get_or, Some, Ok, All, Any, Contains, refl, sym, ap, ap₂, ◌∙◌, subst, arith, codes, append_assoc, append-nil}
 use Rattle.std.specs.List.{AllZip}
 use Rattle.std.proofs.lemmas.Bool.{ltb-true, and_parts}
-use Rattle.std.proofs.lemmas.List.{map_push, length_push}
+use Rattle.std.proofs.lemmas.List.{map_push}
 use Rattle.std.proofs.lemmas.List.Concat.{flat_map-append}
-use Rattle.std.proofs.lemmas.List.Elements.{AllZip-push, All-nil, All-cons, All-head, All-tail, All-push, All-weaker, All-get_or, Contains-push, Contains-append_left}
+use Rattle.std.proofs.lemmas.List.Elements.{All-nil, All-cons, All-head, All-tail, All-push, All-weaker, All-get_or, Contains-push, Contains-append_left}
 use Rattle.pol_defs.specs.Tuples.{IsDomain, IsTuple}
-use Rattle.pol_defs.specs.Relations.{RelationView, IsRelation, IsRelationOver, LanguageView, IsLanguage, no_relation, last_of, with_row, with_relation, with_row_at_last, with_last_row}
+use Rattle.pol_defs.specs.Relations.{RelationView, IsRelationOver, LanguageView, IsLanguage, no_relation, last_of, with_row, with_row_at_last}
 use Rattle.pol_defs.specs.Lines.{LineView, lines_of, significant_lines, token_at, number_of, is_name}
-use Rattle.pol_defs.specs.Refusals.{Word, RefusalView}
 use Rattle.pol_defs.specs.Refusals.Word.{BadLine}
-use Rattle.pol_defs.specs.Files.{FileView, Parsed}
+use Rattle.pol_defs.specs.Files.{Parsed}
 use Rattle.pol_defs.specs.Grammar.{unless, after_line, begins_with, header_line, domain_line, relation_line, tuple_line, entry_line, end_line, rest_of_file, file_from_domain, file_of, parse}
 use Rattle.pol_defs.specs.Spelling.{Write, Block, block_lines, Spells, IsWithinLimits, IsSpelled}
 use Rattle.pol_defs.proofs.RelationLemmas.{Named, AreLong, AreLong-tuples, All-with_row, Contains-with_row, Contains-with_row_old, relation_with_row, length-with_relation, length-with_last_row, IsLanguage-begun, IsRelation-begun, IsLanguage-with_relation, IsLanguage-with_last_row}
-use Rattle.pol_defs.proofs.GrammarLemmas.{Passed, after_line-ok}
-use Rattle.pol_defs.proofs.AcceptedLines.{unless-ok, begins_with-first, begins_with-rest, WritesNumber, WritesDomain, WritesRelation, WritesTuple, header_line-writes, domain_line-writes, relation_line-writes, tuple_line-writes, end_line-writes}
+use Rattle.pol_defs.proofs.GrammarLemmas.{after_line-ok}
+use Rattle.pol_defs.proofs.AcceptedLines.{unless-ok, begins_with-first, begins_with-rest, WritesNumber, WritesRelation, WritesTuple, header_line-writes, domain_line-writes, relation_line-writes, tuple_line-writes, end_line-writes}
+
+-- ---- lists
+
+Any-contains : {X : Type 0} (P : X → Type 0) (xs : List X) (x : X) → Contains xs x → P x → Any P xs
+Any-contains P xs x inside holds = (inside.0, x, inside.1, inside.2, holds)
+
+AllZip-pushed : {X Y : Type 0} (R : X → Y → Type 0) (xs : List X) (ys : List Y) (x : X) (y : Y) → AllZip R xs ys → R x y → AllZip R (xs ++ x ∷ []) (ys ++ y ∷ [])
+AllZip-pushed R [] [] x y zipped holds = (holds, tt)
+AllZip-pushed R [] (b ∷ bs) x y zipped holds = absurd zipped
+AllZip-pushed R (a ∷ more) [] x y zipped holds = absurd zipped
+AllZip-pushed R (a ∷ more) (b ∷ bs) x y zipped holds = (zipped.0, AllZip-pushed R more bs x y zipped.1 holds)
 
 -- ---- blocks
 
@@ -29,25 +39,19 @@ with_line_at_last tokens [] = []
 with_line_at_last tokens (b ∷ []) = with_line b tokens ∷ []
 with_line_at_last tokens (b ∷ c ∷ rest) = b ∷ with_line_at_last tokens (c ∷ rest)
 
-lines-with_line : (b : Block) (tokens : List (List ℕ)) → block_lines (with_line b tokens) ≡ block_lines b ++ (codes "tuple" ∷ tokens) ∷ []
-lines-with_line b tokens = ap (λ ls. (codes "relation" ∷ b.name ∷ b.arity ∷ []) ∷ ls) (map_push (λ values. codes "tuple" ∷ values) b.tuples tokens)
+block_lines-with_line : (b : Block) (tokens : List (List ℕ)) → block_lines (with_line b tokens) ≡ block_lines b ++ (codes "tuple" ∷ tokens) ∷ []
+block_lines-with_line b tokens = ap (λ ls. (codes "relation" ∷ b.name ∷ b.arity ∷ []) ∷ ls) (map_push (λ values. codes "tuple" ∷ values) b.tuples tokens)
 
-lines-with_line_at_last : (tokens : List (List ℕ)) (b : Block) (rest : List Block) → flat_map block_lines (with_line_at_last tokens (b ∷ rest)) ≡ flat_map block_lines (b ∷ rest) ++ (codes "tuple" ∷ tokens) ∷ []
-lines-with_line_at_last tokens b [] =
-    append-nil (block_lines (with_line b tokens)) ∙ (lines-with_line b tokens ∙ ap (λ ls. ls ++ (codes "tuple" ∷ tokens) ∷ []) (sym (append-nil (block_lines b))))
-lines-with_line_at_last tokens b (c ∷ rest) =
-    ap (λ ls. block_lines b ++ ls) (lines-with_line_at_last tokens c rest) ∙ sym (append_assoc (block_lines b) (flat_map block_lines (c ∷ rest)) ((codes "tuple" ∷ tokens) ∷ []))
+block_lines-with_line_at_last : (tokens : List (List ℕ)) (b : Block) (rest : List Block) → flat_map block_lines (with_line_at_last tokens (b ∷ rest)) ≡ flat_map block_lines (b ∷ rest) ++ (codes "tuple" ∷ tokens) ∷ []
+block_lines-with_line_at_last tokens b [] =
+    append-nil (block_lines (with_line b tokens)) ∙ (block_lines-with_line b tokens ∙ ap (λ ls. ls ++ (codes "tuple" ∷ tokens) ∷ []) (sym (append-nil (block_lines b))))
+block_lines-with_line_at_last tokens b (c ∷ rest) =
+    ap (λ ls. block_lines b ++ ls) (block_lines-with_line_at_last tokens c rest) ∙ sym (append_assoc (block_lines b) (flat_map block_lines (c ∷ rest)) ((codes "tuple" ∷ tokens) ∷ []))
 
-lines-push : (blocks : List Block) (b : Block) → b.tuples ≡ [] → flat_map block_lines (blocks ++ b ∷ []) ≡ flat_map block_lines blocks ++ (codes "relation" ∷ b.name ∷ b.arity ∷ []) ∷ []
-lines-push blocks b none =
+block_lines-push : (blocks : List Block) (b : Block) → b.tuples ≡ [] → flat_map block_lines (blocks ++ b ∷ []) ≡ flat_map block_lines blocks ++ (codes "relation" ∷ b.name ∷ b.arity ∷ []) ∷ []
+block_lines-push blocks b none =
     let alone : block_lines b ≡ (codes "relation" ∷ b.name ∷ b.arity ∷ []) ∷ [] = ap (λ tuples. (codes "relation" ∷ b.name ∷ b.arity ∷ []) ∷ map (λ values. codes "tuple" ∷ values) tuples) none in
     flat_map-append block_lines blocks (b ∷ []) ∙ ap (λ ls. flat_map block_lines blocks ++ ls) (append-nil (block_lines b) ∙ alone)
-
-Any-contains : {X : Type 0} (P : X → Type 0) (xs : List X) (x : X) → Contains xs x → P x → Any P xs
-Any-contains P xs x inside holds = (inside.0, x, inside.1, inside.2, holds)
-
-Contains-any : {X : Type 0} (xs : List X) (k : ℕ) (x : X) → k < length xs → get_or xs k x ≡ x → Contains xs x
-Contains-any xs k x inside here = (k, inside, here)
 
 -- the tuple is as long as the rows
 record FitsRows (t : List ℕ) (named : Named) : Type 0 where
@@ -60,15 +64,24 @@ Spells-with_line b named tokens t spells fits write = record {
   is_name = spells.is_name;
   same_name = spells.same_name;
   arity_is = spells.arity_is;
-  rows_only = All-push (λ line. Any (Write line) (with_row t named.1.rows)) b.tuples tokens (All-weaker (λ line. Any (Write line) named.1.rows) (λ line. Any (Write line) (with_row t named.1.rows)) (λ line any. older line any) b.tuples spells.rows_only) (Any-contains (Write tokens) (with_row t named.1.rows) t (Contains-with_row named.1.arity t named.1.rows fits.long fits.rows_long) write);
-  each_row = All-with_row (λ row. Any (λ line. Write line row) (b.tuples ++ tokens ∷ [])) named.1.arity t named.1.rows fits.long fits.rows_long (Any-contains (λ line. Write line t) (b.tuples ++ tokens ∷ []) tokens (Contains-push b.tuples tokens) write) (All-weaker (λ row. Any (λ line. Write line row) b.tuples) (λ row. Any (λ line. Write line row) (b.tuples ++ tokens ∷ [])) (λ row any. longer row any) named.1.rows spells.each_row)
+  rows_only = All-push (λ line. Any (Write line) rows) b.tuples tokens (All-weaker (λ line. Any (Write line) named.1.rows) (λ line. Any (Write line) rows) (λ line any. older line any) b.tuples spells.rows_only) (Any-contains (Write tokens) rows t (Contains-with_row named.1.arity t named.1.rows fits.long fits.rows_long) write);
+  each_row = All-with_row IsWritten named.1.arity t named.1.rows fits.long fits.rows_long (Any-contains (λ line. Write line t) lines tokens (Contains-push b.tuples tokens) write) (All-weaker (λ row. Any (λ line. Write line row) b.tuples) IsWritten (λ row any. longer row any) named.1.rows spells.each_row);
 }
   where
-    older : (line : List (List ℕ)) → Any (Write line) named.1.rows → Any (Write line) (with_row t named.1.rows)
-    older line any = Any-contains (Write line) (with_row t named.1.rows) any.1 (Contains-with_row_old named.1.arity t any.1 named.1.rows fits.long fits.rows_long (any.0, any.2, any.3)) any.4
+    rows : List (List ℕ)
+    rows = with_row t named.1.rows
 
-    longer : (row : List ℕ) → Any (λ line. Write line row) b.tuples → Any (λ line. Write line row) (b.tuples ++ tokens ∷ [])
-    longer row any = Any-contains (λ line. Write line row) (b.tuples ++ tokens ∷ []) any.1 (Contains-append_left b.tuples (tokens ∷ []) any.1 (any.0, any.2, any.3)) any.4
+    lines : List (List (List ℕ))
+    lines = b.tuples ++ tokens ∷ []
+
+    IsWritten : List ℕ → Type 0
+    IsWritten row = Any (λ line. Write line row) lines
+
+    older : (line : List (List ℕ)) → Any (Write line) named.1.rows → Any (Write line) rows
+    older line any = Any-contains (Write line) rows any.1 (Contains-with_row_old named.1.arity t any.1 named.1.rows fits.long fits.rows_long (any.0, any.2, any.3)) any.4
+
+    longer : (row : List ℕ) → Any (λ line. Write line row) b.tuples → IsWritten row
+    longer row any = Any-contains (λ line. Write line row) lines any.1 (Contains-append_left b.tuples (tokens ∷ []) any.1 (any.0, any.2, any.3)) any.4
 
 Spells-with_line_at_last : (tokens : List (List ℕ)) (t : List ℕ) (b : Block) (bs : List Block) (e : Named) (es : List Named) → AllZip Spells (b ∷ bs) (e ∷ es) → FitsRows t (get_or (e ∷ es) (length es) ([], no_relation)) → Write tokens t → AllZip Spells (with_line_at_last tokens (b ∷ bs)) (with_row_at_last t (e ∷ es))
 Spells-with_line_at_last tokens t b [] e [] spell fits write = (Spells-with_line b e tokens t spell.0 fits write, tt)
@@ -97,10 +110,10 @@ few-with_row : (t : List ℕ) (relations : List Named) → All (λ e. length e.1
 few-with_row t [] all few = all
 few-with_row t (e ∷ es) all few = All-with_row_at_last (λ f. length f.1.rows ≤ 128) t e es all (rw (last_place (length es)) at few)
 
-lines_of-with_line : (tokens : List (List ℕ)) (blocks : List Block) (relations : List Named) → 0 < length relations → AllZip Spells blocks relations → flat_map block_lines (with_line_at_last tokens blocks) ≡ flat_map block_lines blocks ++ (codes "tuple" ∷ tokens) ∷ []
-lines_of-with_line tokens [] [] some spell = absurd (omega arith)
-lines_of-with_line tokens [] (e ∷ es) some spell = absurd spell
-lines_of-with_line tokens (b ∷ bs) relations some spell = lines-with_line_at_last tokens b bs
+block_lines-at_last : (tokens : List (List ℕ)) (blocks : List Block) (relations : List Named) → 0 < length relations → AllZip Spells blocks relations → flat_map block_lines (with_line_at_last tokens blocks) ≡ flat_map block_lines blocks ++ (codes "tuple" ∷ tokens) ∷ []
+block_lines-at_last tokens [] [] some spell = absurd (omega arith)
+block_lines-at_last tokens [] (e ∷ es) some spell = absurd spell
+block_lines-at_last tokens (b ∷ bs) relations some spell = block_lines-with_line_at_last tokens b bs
 
 -- ---- the lines of a language
 
@@ -118,14 +131,8 @@ said-begun d domain = record {
   lines_are = refl;
   relations_are = tt;
   within = record { is_language = IsLanguage-begun d domain; few_relations = omega arith; few_tuples = All-nil (λ e. length e.1.rows ≤ 128) };
-  domain_is = refl
+  domain_is = refl;
 }
-
-AllZip-pushed : {X Y : Type 0} (R : X → Y → Type 0) (xs : List X) (ys : List Y) (x : X) (y : Y) → AllZip R xs ys → R x y → AllZip R (xs ++ x ∷ []) (ys ++ y ∷ [])
-AllZip-pushed R [] [] x y zipped holds = (holds, tt)
-AllZip-pushed R [] (b ∷ bs) x y zipped holds = absurd zipped
-AllZip-pushed R (a ∷ more) [] x y zipped holds = absurd zipped
-AllZip-pushed R (a ∷ more) (b ∷ bs) x y zipped holds = (zipped.0, AllZip-pushed R more bs x y zipped.1 holds)
 
 -- a relation without rows is spelled by its name and its arity
 Spells-begun : (d arity : ℕ) (name token : List ℕ) → is_name name ≡ true → number_of token ≡ Some arity → Spells (record { name = name; arity = token; tuples = [] }) (name, record { domain = d; arity = arity; rows = [] })
@@ -134,20 +141,20 @@ Spells-begun d arity name token named number = record {
   same_name = refl;
   arity_is = number;
   rows_only = All-nil (λ line. Any (Write line) []);
-  each_row = All-nil (λ row. Any (λ line. Write line row) [])
+  each_row = All-nil (λ row. Any (λ line. Write line row) []);
 }
 
 said-relation : (d : ℕ) (lines : List (List (List ℕ))) (lang : LanguageView) (tokens : List (List ℕ)) (next : LanguageView) → SaidBy d lines lang → token_at tokens 0 ≡ codes "relation" → WritesRelation lang tokens next → SaidBy d (lines ++ tokens ∷ []) next
 said-relation d lines lang tokens next said first writes = subst (SaidBy d (lines ++ tokens ∷ [])) (sym writes.next_is) (record {
   blocks = said.blocks ++ block ∷ [];
-  lines_are = ap₂ (λ some line. some ++ line ∷ []) said.lines_are (writes.tokens_are ∙ ap (λ t. t ∷ writes.name ∷ writes.arity_token ∷ []) first) ∙ sym (lines-push said.blocks block refl);
+  lines_are = ap₂ (λ some line. some ++ line ∷ []) said.lines_are (writes.tokens_are ∙ ap (λ t. t ∷ writes.name ∷ writes.arity_token ∷ []) first) ∙ sym (block_lines-push said.blocks block refl);
   relations_are = AllZip-pushed Spells said.blocks lang.relations block (writes.name, begun) said.relations_are (Spells-begun lang.domain writes.arity writes.name writes.arity_token writes.is_name writes.arity_is);
   within = record {
     is_language = IsLanguage-with_relation lang writes.name begun is (record { is_relation = IsRelation-begun lang.domain writes.arity is.domain_is writes.some_places writes.few_places; same_domain = refl }) writes.is_new;
     few_relations = omega (arith, writes.few_relations, length-with_relation lang writes.name begun);
-    few_tuples = All-push (λ e. length e.1.rows ≤ 128) lang.relations (writes.name, begun) said.within.few_tuples (omega arith)
+    few_tuples = All-push (λ e. length e.1.rows ≤ 128) lang.relations (writes.name, begun) said.within.few_tuples (omega arith);
   };
-  domain_is = said.domain_is
+  domain_is = said.domain_is;
 })
   where
     is : IsLanguage lang
@@ -162,14 +169,14 @@ said-relation d lines lang tokens next said first writes = subst (SaidBy d (line
 said-tuple : (d : ℕ) (lines : List (List (List ℕ))) (lang : LanguageView) (tokens : List (List ℕ)) (next : LanguageView) → SaidBy d lines lang → 0 < length lang.relations → IsRelationOver lang.domain (last_of lang) → token_at tokens 0 ≡ codes "tuple" → WritesTuple lang tokens next → SaidBy d (lines ++ tokens ∷ []) next
 said-tuple d lines lang tokens next said some over first writes = subst (SaidBy d (lines ++ tokens ∷ [])) (sym writes.row.next_is) (record {
   blocks = with_line_at_last (drop 1 tokens) said.blocks;
-  lines_are = ap₂ (λ all line. all ++ line ∷ []) said.lines_are (begins_with-rest (codes "tuple") tokens (omega arith) first) ∙ sym (lines_of-with_line (drop 1 tokens) said.blocks lang.relations some said.relations_are);
+  lines_are = ap₂ (λ all line. all ++ line ∷ []) said.lines_are (begins_with-rest (codes "tuple") tokens (omega arith) first) ∙ sym (block_lines-at_last (drop 1 tokens) said.blocks lang.relations some said.relations_are);
   relations_are = blocks-with_line (drop 1 tokens) writes.values said.blocks lang.relations said.relations_are fits writes.write;
   within = record {
     is_language = IsLanguage-with_last_row lang writes.values said.within.is_language (subst (λ k. IsTuple k (last_of lang).arity writes.values) (sym over.same_domain) writes.tuple);
     few_relations = omega (arith, said.within.few_relations, length-with_last_row lang writes.values);
-    few_tuples = few-with_row writes.values lang.relations said.within.few_tuples writes.row.few
+    few_tuples = few-with_row writes.values lang.relations said.within.few_tuples writes.row.few;
   };
-  domain_is = said.domain_is
+  domain_is = said.domain_is;
 })
   where
     fits : FitsRows writes.values (last_named lang.relations)
@@ -211,7 +218,7 @@ said-at_end d earlier lang l ls line said ends = record {
   lines_are = refl;
   said = subst (λ lines. SaidBy d lines lang) (sym (append-nil earlier)) said;
   last_is = ends;
-  place_is = refl
+  place_is = refl;
 }
 
 said-before : (d : ℕ) (earlier : List (List (List ℕ))) (l : LineView) (ls : List LineView) (found : Parsed) → SaidToEnd d (earlier ++ l.tokens ∷ []) ls found → SaidToEnd d earlier (l ∷ ls) found
@@ -222,7 +229,7 @@ said-before d earlier l ls found later = record {
   lines_are = ap (λ some. l ∷ some) later.lines_are;
   said = subst (λ lines. SaidBy d lines found.file.language) (append_assoc earlier (l.tokens ∷ []) (map (λ line. line.tokens) later.front)) later.said;
   last_is = later.last_is;
-  place_is = later.place_is
+  place_is = later.place_is;
 }
 
 rest_of_file-said : (d : ℕ) (earlier : List (List (List ℕ))) (lang : LanguageView) (last : ℕ) (ls : List LineView) (found : Parsed) → SaidBy d earlier lang → rest_of_file lang last ls ≡ Ok found → SaidToEnd d earlier ls found
@@ -255,7 +262,7 @@ file-spelled h k ls d found header domain to_end = record {
   lines_are = ap (λ some. h ∷ k ∷ some) to_end.lines_are;
   front_is = ap₂ (λ line lines. line ∷ lines) header.tokens_are (ap₂ (λ line lines. line ∷ lines) domain.tokens_are to_end.said.lines_are);
   last_is = to_end.last_is;
-  place_is = to_end.place_is
+  place_is = to_end.place_is;
 }
 
 -- a text that the grammar accepts is spelled as the file that it gives
