@@ -1,14 +1,13 @@
 -- The lines and tokens of a text, taken one by one from its front.
-use Rattle.std.proofs.Common.{◌≡◌, ◌≢◌, ℕ, zero, suc, inl, inr, cond, ◌+◌, ◌-◌, ◌*◌, ◌^◌, ◌<◌, ◌≤◌, Bool, true, false, not, eqb, List, [], ◌∷◌, ◌++◌, length, get_or, take, drop, map, refl, ap, sym, ◌∙◌, arith, rules}
-use Rattle.std.proofs.lemmas.Bool.{cases_Bool, eq-eqb, ne_eqb, eqb-true, leb-true, le-leb, and_parts, not-true, ltb-true, ltb-false}
+use Rattle.std.proofs.Common.{◌≡◌, ◌≢◌, ℕ, zero, suc, inl, inr, cond, ◌+◌, ◌-◌, ◌*◌, ◌^◌, ◌<◌, ◌≤◌, Bool, true, false, not, eqb, List, [], ◌∷◌, ◌++◌, length, get_or, take, drop, map, refl, ap, arith, one-add, ltb, leb, ◌&&◌, Option, Some, None, unwrap_or, length-append, length-drop}
+use Rattle.std.proofs.lemmas.Bool.{cases_Bool, eq-eqb, ne_eqb, eqb-true, leb-true, le-leb, and_parts, not-true, ltb-false}
 use Rattle.std.proofs.lemmas.List.Recursion.{is_count_by}
 use Rattle.std.proofs.Math.Nat.{pow-suc, pow-zero}
-use Rattle.std.proofs.Common.{one-add, ltb, leb, ◌&&◌, Option, Some, None, unwrap_or, length-append, length-drop}
 use Rattle.std.proofs.lemmas.List.{nil_from_length, map_more}
 use Rattle.std.specs.Prelude.{count_by}
 use Rattle.std.specs.List.{position_or_len, list_all}
 use Rattle.pol_defs.specs.Tuples.{cell_of}
-use Rattle.pol_defs.specs.Lines.{is_letter, is_name_byte, is_name, is_digit, is_number, grown, lines_of, without_last, line_text, is_blank, begins_solid, tokens_of, is_significant, LineView, significant_among}
+use Rattle.pol_defs.specs.Lines.{is_letter, is_name_byte, is_name, is_digit, is_number, grown, lines_of, without_last, is_blank, begins_solid, tokens_of}
 
 -- ---- lines
 
@@ -47,6 +46,7 @@ some_piece b (p ∷ ps) = omega arith
 some_line : (b : ℕ) (bs : List ℕ) → 0 < length (lines_of (b ∷ bs))
 some_line b bs = elim (cases_Bool (eqb b 10)) [ inl e ↦ rw e (omega arith) | inr e ↦ rw e (some_piece b (lines_of bs)) ]
 
+-- how many bytes are an LF
 abbrev line_ends : List ℕ → ℕ
 line_ends [] = 0
 line_ends (b ∷ bs) = cond (eqb b 10) (1 + line_ends bs) (line_ends bs)
@@ -57,6 +57,7 @@ line_ends-count_by bs = is_count_by line_ends (λ b. eqb b 10) refl (λ _ _. ref
 one_line_more : (b : ℕ) (bs : List ℕ) (n : ℕ) → 0 < length (lines_of bs) → length (lines_of bs) ≡ line_ends bs + n → length (lines_of (b ∷ bs)) ≡ line_ends (b ∷ bs) + n
 one_line_more b bs n some same = elim (cases_Bool (eqb b 10)) [ inl e ↦ rw e (omega arith) | inr e ↦ rw (e, length-grown b (lines_of bs) some) same ]
 
+-- the byte at n is the last one
 ended_by : (bs : List ℕ) (n : ℕ) → length bs ≡ suc n → eqb (get_or bs n 0) 10 ≡ true → length (lines_of bs) ≡ line_ends bs + 0
 ended_by [] n long last = absurd (omega arith)
 ended_by (b ∷ []) zero long last = rw last
@@ -94,6 +95,7 @@ length-lines_of-le (b ∷ bs) =
 
 -- ---- the end of a line
 
+-- the byte at the end goes
 pub without_last-push : (b : ℕ) (front : List ℕ) → without_last b (front ++ b ∷ []) ≡ front
 without_last-push b [] = rw (eq-eqb b b refl)
 without_last-push b (c ∷ []) = rw (eq-eqb b b refl)
@@ -101,6 +103,7 @@ without_last-push b (c ∷ d ∷ front) =
     let rest = without_last-push b (d ∷ front) in
     ap (λ (xs : List ℕ). c ∷ xs) rest
 
+-- any other list stays
 pub without_last-other : (b : ℕ) (bs : List ℕ) → ((front : List ℕ) → bs ≢ front ++ b ∷ []) → without_last b bs ≡ bs
 without_last-other b [] other = refl
 without_last-other b (c ∷ []) other = elim (cases_Bool (eqb c b)) [ inl e ↦ absurd (other [] (ap (λ (x : ℕ). x ∷ []) (eqb-true c b e))) | inr e ↦ rw e ]
@@ -110,6 +113,7 @@ without_last-other b (c ∷ d ∷ bs) other =
 
 -- ---- tokens
 
+-- no space and no tab
 abbrev pub is_solid : ℕ → Bool
 is_solid b = not (is_blank b)
 
@@ -125,12 +129,13 @@ pub begins_solid-blanks : (bs : List ℕ) → position_or_len is_solid bs < leng
 begins_solid-blanks [] some = absurd (omega arith)
 begins_solid-blanks (b ∷ bs) some =
     elim (cases_Bool (is_blank b)) [
-      inl e ↦
-        let further = rw e at some in
-        let inside : position_or_len is_solid bs < length bs = omega (arith, further) in
-        let rest = begins_solid-blanks bs inside in
-        rw (e, one-add) rest
-    | inr e ↦ rw (e, e) refl ]
+      | inl e ↦
+          let further = rw e at some in
+          let inside : position_or_len is_solid bs < length bs = omega (arith, further) in
+          let rest = begins_solid-blanks bs inside in
+          rw (e, one-add) rest
+      | inr e ↦ rw (e, e) refl
+    ]
 
 no_token : (bs : List ℕ) → begins_solid bs ≡ false → position_or_len is_blank bs ≡ 0
 no_token [] blank = refl
@@ -142,8 +147,9 @@ tokens_of-first [] solid = absurd (cc)
 tokens_of-first (b ∷ bs) solid =
     let start : is_blank b ≡ false = not-true (is_blank b) solid in
     elim (cases_Bool (begins_solid bs)) [
-      inl e ↦ let rest = tokens_of-first bs e in rw (start, e, one-add, rest)
-    | inr e ↦ let none = no_token bs e in rw (start, e, none) ]
+      | inl e ↦ let rest = tokens_of-first bs e in rw (start, e, one-add, rest)
+      | inr e ↦ let none = no_token bs e in rw (start, e, none)
+    ]
 
 -- there is no token where all are blank
 pub tokens_of-none : (bs behind : List ℕ) → behind ≡ drop (position_or_len is_solid bs) bs → length behind ≡ 0 → tokens_of bs ≡ []
@@ -167,8 +173,9 @@ length-tokens_of-le [] = omega arith
 length-tokens_of-le (b ∷ bs) =
     let rest = length-tokens_of-le bs in
     elim (cases_Bool (is_blank b)) [
-      inl e ↦ rw e (omega arith)
-    | inr e ↦ elim (cases_Bool (begins_solid bs)) [ inl f ↦ rw (e, f) (pieces_le b (tokens_of bs) (length bs) rest) | inr f ↦ rw (e, f) (omega arith) ] ]
+      | inl e ↦ rw e (omega arith)
+      | inr e ↦ elim (cases_Bool (begins_solid bs)) [ inl f ↦ rw (e, f) (pieces_le b (tokens_of bs) (length bs) rest) | inr f ↦ rw (e, f) (omega arith) ]
+    ]
 
 pub position_or_len-le : (test : ℕ → Bool) (bs : List ℕ) → position_or_len test bs ≤ length bs
 position_or_len-le test [] = omega arith
@@ -181,26 +188,19 @@ pub position_or_len-found : (test : ℕ → Bool) (bs : List ℕ) (r : Option �
 position_or_len-found test bs r found =
     let within = position_or_len-le test bs in
     elim (cases_Bool (ltb (position_or_len test bs) (length bs))) [
-      inl e ↦ let is : r ≡ Some (position_or_len test bs) = rw e at found in rw is refl
-    | inr e ↦ let is : r ≡ None = rw e at found in rw is (omega (arith, ltb-false _ _ e)) ]
+      | inl e ↦ let is : r ≡ Some (position_or_len test bs) = rw e at found in rw is refl
+      | inr e ↦ let is : r ≡ None = rw e at found in rw is (omega (arith, ltb-false _ _ e))
+    ]
 
--- ---- significant lines
-
-pub significant_among-passed : (number place : ℕ) (bs line rest : List ℕ) → lines_of bs ≡ line ∷ lines_of rest → is_significant (tokens_of (line_text line)) ≡ false → significant_among number place (lines_of bs) ≡ significant_among (number + 1) (place + length line) (lines_of rest)
-significant_among-passed number place bs line rest first passed = rw (first, passed)
-
-pub significant_among-found : (number place : ℕ) (bs line rest : List ℕ) → lines_of bs ≡ line ∷ lines_of rest → is_significant (tokens_of (line_text line)) ≡ true → significant_among number place (lines_of bs) ≡ record { number = number; tokens = tokens_of (line_text line); after = place + length line } ∷ significant_among (number + 1) (place + length line) (lines_of rest)
-significant_among-found number place bs line rest first found = rw (first, found)
-
--- ---- numbers
+-- ---- numbers and names
 
 -- where the length is right, the bytes decide
 pub is_number-digits : (bs : List ℕ) → 0 < length bs → length bs ≤ 9 → is_number bs ≡ list_all is_digit bs
 is_number-digits bs some few = rw (le-leb 1 (length bs) some, le-leb (length bs) 9 few)
 
 -- a number has at most nine digits
-pub IsNumber-short : (bs : List ℕ) → is_number bs ≡ true → length bs ≤ 9
-IsNumber-short bs number =
+pub few_digits_from_number : (bs : List ℕ) → is_number bs ≡ true → length bs ≤ 9
+few_digits_from_number bs number =
     let parts = and_parts (leb 1 (length bs) && leb (length bs) 9) (list_all is_digit bs) number in
     let lengths = and_parts (leb 1 (length bs)) (leb (length bs) 9) parts.0 in
     leb-true (length bs) 9 lengths.1
@@ -215,12 +215,11 @@ digit_at [] i digits small = absurd (omega arith)
 digit_at (b ∷ bs) zero digits small = (and_parts (is_digit b) (list_all is_digit bs) digits).0
 digit_at (b ∷ bs) (suc i) digits small = digit_at bs i (and_parts (is_digit b) (list_all is_digit bs) digits).1 (omega arith)
 
-pub IsNumber-digit : (bs : List ℕ) (i : ℕ) → is_number bs ≡ true → i < length bs → IsDigit (get_or bs i 0)
-IsNumber-digit bs i number small =
+pub IsDigit-from_number : (bs : List ℕ) (i : ℕ) → is_number bs ≡ true → i < length bs → IsDigit (get_or bs i 0)
+IsDigit-from_number bs i number small =
     let parts = and_parts (leb 1 (length bs) && leb (length bs) 9) (list_all is_digit bs) number in
     let digit = and_parts (leb 48 (get_or bs i 0)) (leb (get_or bs i 0) 57) (digit_at bs i parts.1 small) in
     record { low = leb-true 48 (get_or bs i 0) digit.0; high = leb-true (get_or bs i 0) 57 digit.1 }
-
 
 -- where the first byte is a letter and the length is right, the other bytes decide
 pub is_name-bytes : (bs rest : List ℕ) → 0 < length bs → rest ≡ drop 1 bs → is_letter (get_or bs 0 0) ≡ true → length rest ≤ 31 → is_name bs ≡ list_all is_name_byte rest

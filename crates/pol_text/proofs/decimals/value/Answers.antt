@@ -1,13 +1,13 @@
 use Rattle.std.proofs.Common.{◌≡◌, ℕ, ◌+◌, ◌*◌, ◌<◌, ◌≤◌, ◌^◌, true, List, length, arith, add-one}
 use Rattle.std.proofs.Math.Nat.{pow-suc, pow-le-pow_right}
 use Rattle.pol_defs.specs.Lines.{is_number}
-use Rattle.pol_defs.proofs.LineLemmas.{IsNumber-short, IsNumber-digit, cell_of-digit_more}
+use Rattle.pol_defs.proofs.LineLemmas.{few_digits_from_number, IsDigit-from_number, cell_of-digit_more}
 use Rattle.pol_text.proofs.decimals.value.Goals as goal
 
 -- at most eight digits stand before a digit of a number
 at_most_eight : (bs : List ℕ) (i : ℕ) → is_number bs ≡ true → i < length bs → 10 ^ i ≤ 10 ^ 8
 at_most_eight bs i number small =
-    let few = IsNumber-short bs number in
+    let few = few_digits_from_number bs number in
     pow-le-pow_right {n = 10} (omega arith) {i = i} {j = 8} (omega arith)
 
 pub overflow_mul-value : goal.overflow_mul-value
@@ -22,7 +22,7 @@ overflow_add-value c =
 
 pub loop-digit-preserved : goal.loop-digit-preserved
 loop-digit-preserved c =
-    let digit = IsNumber-digit c.args.digits.now c.loop-digit.digit-index c.requires.number c.loop-digit-test.true in
+    let digit = IsDigit-from_number c.args.digits.now c.loop-digit.digit-index c.requires.number c.loop-digit-test.true in
     let more = cell_of-digit_more c.args.digits.now c.loop-digit.digit-index c.loop-digit-test.true in
     let next : 10 ^ (c.loop-digit.digit-index + 1) ≡ 10 ^ c.loop-digit.digit-index * 10 = rw add-one (pow-suc 10 c.loop-digit.digit-index) in
     record {
