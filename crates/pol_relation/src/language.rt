@@ -107,7 +107,8 @@ impl Language {
         ensures found { IfSome result (λ i. name_of self.now i ≡ name.now) }
         ensures none { IfNone result (Contains (names_of self.now) name.now → ⊥) }
     {
-        self.relations.get_index_of(name).map(|place| place as u32)
+        let place = self.relations.get_index_of(name)?;
+        Some(place as u32)
     }
 
     /// How many relations there are.

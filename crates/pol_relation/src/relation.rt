@@ -1,4 +1,4 @@
-ghost use Rattle.std.specs.Prelude.{◌≡◌, ℕ, ◌<◌, ◌≤◌, ◌%◌, ◌/◌, ◌↔◌, length, All, Contains, IfOk, OnOk, OnErr, IsTrue, slice_index_or, []};
+ghost use Rattle.std.specs.Prelude.{◌≡◌, ℕ, ◌<◌, ◌≤◌, ◌%◌, ◌/◌, ◌↔◌, length, All, Contains, IfOk, IfErr, OnOk, OnErr, IsTrue, slice_index_or, insert, []};
 ghost use Rattle.pol_defs.specs.Tuples.{IsTuple};
 ghost use Rattle.pol_defs.specs.Relations.{RelationView, IsRelation, with_row, has_row, tuples_in, SameMembers};
 
@@ -127,7 +127,13 @@ impl Relation {
     }
 
     /// The place of the row, or the place where the tuple would go.
-    fn search(&self, tuple: &[u8]) -> Result<usize, usize> {
+    fn search(&self, tuple: &[u8]) -> Result<usize, usize>
+        requires tuple { IsTuple self.now.domain self.now.arity tuple.now }
+        ensures found { OnOk result (Contains self.now.rows tuple.now) }
+        ensures absent { OnErr result (Contains self.now.rows tuple.now → ⊥) }
+        ensures within { IfErr result (λ place. place ≤ length self.now.rows) }
+        ensures goes { IfErr result (λ place. with_row tuple.now self.now.rows ≡ insert self.now.rows place tuple.now) }
+    {
         self.rows.binary_search_by(|row| row.as_slice().cmp(tuple))
     }
 }
