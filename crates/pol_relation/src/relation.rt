@@ -23,6 +23,20 @@ impl Model for Relation {
 }
 
 impl Relation {
+    /// The relation without rows. Takes no memory.
+    pub fn new(alloc: Global, d: Domain, arity: u32) -> Relation
+        requires some_places { 1 ≤ arity }
+        requires few_places { arity ≤ 6 }
+        ensures empty { result ≡ record { domain = d; arity = arity; rows = [] } }
+    {
+        let _size = d.size();
+        Relation {
+            domain: d,
+            arity,
+            rows: Vec::new(alloc),
+        }
+    }
+
     /// The relation of the tuples that stand one behind another in `rows`. Repeated ones count once.
     pub fn from_rows(
         alloc: Global,
