@@ -199,11 +199,20 @@ mod tests {
     fn passes_over_comments_and_blank_lines(rt: HostRuntime) {
         let text = b"# head\n a\tb  c \r\n\r\n\r\r\nx\0y z\n\t#no\nend #t";
         let mut lines = significant(text, 1);
-        for expected in [(2, 3, 17), (4, 1, 22), (5, 2, 28), (7, 2, 39)] {
-            let found = lines
-                .next()
-                .map(|line| (line.number(), line.count(), line.after()));
-            assert_eq!(rt; found, Some(expected));
+        let expected = [
+            (2, 3, Some(b"a".as_slice()), 17),
+            (4, 1, Some(b"\r".as_slice()), 22),
+            (5, 2, Some(b"x\0y".as_slice()), 28),
+            (7, 2, Some(b"end".as_slice()), 39),
+        ];
+        for line in expected {
+            let found = lines.next().map(|found| (
+                found.number(),
+                found.count(),
+                found.token(0),
+                found.after(),
+            ));
+            assert_eq!(rt; found, Some(line));
         }
         assert!(rt; lines.next().is_none());
     }
