@@ -5,6 +5,8 @@ use Rattle.pol_text.specs.declared.refusal.ReadFail.{ReadFail}
 use Rattle.pol_text.specs.declared.refusal.ReadFail.TheVariants as read_fail
 use Rattle.pol_text.specs.Words.{word_named, refusal_named}
 use Rattle.pol_defs.specs.Refusals.{Word, RefusalView}
+use Rattle.pol_defs.specs.Files.{FileView, Parsed}
+use Rattle.pol_lang.specs.declared.file.Rest.{Rest}
 use Rattle.pol_lang.specs.declared.line_fail.LineFail.{LineFail}
 use Rattle.pol_lang.specs.declared.line_fail.LineFail.TheVariants as line_fail
 
@@ -31,7 +33,6 @@ Changes (Ok x) new read = read ≡ Ok new
 Changes (Err (line_fail.Refused word)) new read = read ≡ Err (word_named word)
 Changes (Err line_fail.NoMemory) new read = ⊤
 
--- the refusal of the line with the number
-abbrev pub fail_at : ℕ → LineFail → ReadFail
-fail_at number (line_fail.Refused word) = read_fail.Refused (record { line = number; word = word })
-fail_at number line_fail.NoMemory = read_fail.NoMemory
+-- what the call that reads a file answers: the file, and where it ends
+abbrev pub parsed_of : FileView × Rest → Parsed
+parsed_of read = record { file = read.0; place = read.1.place; line = read.1.line }

@@ -1,6 +1,8 @@
-ghost use Rattle.std.specs.Prelude.{◌≡◌, ◌<◌, ◌≤◌, length};
+ghost use Rattle.std.specs.Prelude.{◌≡◌, ◌-◌, ◌<◌, ◌≤◌, length, drop, IfOk};
 ghost use Rattle.pol_defs.specs.Lines.{token_at};
-ghost use Rattle.pol_defs.specs.Grammar.{begins_with, header_line, domain_line, end_line, relation_line, tuple_line, entry_line, values_of};
+ghost use Rattle.pol_defs.specs.Tuples.{IsTuple};
+ghost use Rattle.pol_defs.specs.Relations.{last_of, has_name, has_row};
+ghost use Rattle.pol_defs.specs.Grammar.{begins_with, header_line, domain_line, end_line, relation_line, tuple_line, with_tuple, entry_line, values_of};
 ghost use Rattle.pol_lang.specs.Reading.{Judges, Takes, Changes};
 
 use crate::line_fail::LineFail;
@@ -17,7 +19,10 @@ const MOST_TUPLES: u32 = 128;
 fn token<'a>(line: &Line<'a>, i: usize) -> &'a [u8]
     ensures token { result.now ≡ token_at line.now.tokens i }
 {
-    line.token(i).unwrap_or(b"")
+    match line.token(i) {
+        Some(token) => token,
+        None => b"",
+    }
 }
 
 pub(crate) fn begins_with(line: &Line<'_>, keyword: &[u8]) -> bool
@@ -27,6 +32,7 @@ pub(crate) fn begins_with(line: &Line<'_>, keyword: &[u8]) -> bool
 }
 
 /// `polyanna 1`, which gives the version.
+#[tactic(auto, unfolding(pol_defs::specs::Grammar::header_line))]
 pub(crate) fn header_line(line: &Line<'_>) -> Result<u32, Word>
     ensures judged { Judges result (header_line line.now.tokens) }
 {
@@ -43,10 +49,14 @@ pub(crate) fn header_line(line: &Line<'_>) -> Result<u32, Word>
 }
 
 /// `domain N`.
+#[tactic(auto, unfolding(pol_defs::specs::Grammar::domain_line))]
 pub(crate) fn domain_line(line: &Line<'_>) -> Result<Domain, Word>
     ensures judged { Judges result (domain_line line.now.tokens) }
 {
-    if !begins_with(line, b"domain") || line.count() != 2 {
+    if !begins_with(line, b"domain") {
+        return Err(Word::BadLine);
+    }
+    if line.count() != 2 {
         return Err(Word::BadLine);
     }
     match number(token(line, 1)) {
@@ -67,6 +77,7 @@ pub(crate) fn end_line(line: &Line<'_>) -> Result<u32, Word>
 }
 
 /// A relation, or a tuple of the last relation.
+#[tactic(auto, unfolding(pol_defs::specs::Grammar::entry_line))]
 pub(crate) fn entry_line(
     alloc: Global,
     language: &mut Language,
@@ -84,6 +95,7 @@ pub(crate) fn entry_line(
 }
 
 /// `relation NAME ARITY`, which begins a relation without rows.
+#[tactic(auto, unfolding(pol_defs::specs::Grammar::relation_line))]
 fn relation_line(alloc: Global, language: &mut Language, line: &Line<'_>) -> Result<(), LineFail>
     ensures changes { Changes result language.new (relation_line language.old line.now.tokens) }
 {
@@ -94,7 +106,7 @@ fn relation_line(alloc: Global, language: &mut Language, line: &Line<'_>) -> Res
     if !is_name(name) {
         return Err(LineFail::Refused(Word::BadName));
     }
-    if language.find(name).is_some() {
+    if has_relation(language, name) {
         return Err(LineFail::Refused(Word::RepeatedName));
     }
     let Some(arity) = number(token(line, 2)) else {
@@ -114,13 +126,20 @@ fn relation_line(alloc: Global, language: &mut Language, line: &Line<'_>) -> Res
     }
 }
 
+/// Whether a relation of the language has the name.
+fn has_relation(language: &Language, name: &[u8]) -> bool
+    ensures name { result ≡ has_name language.now name.now }
+{
+    language.find(name).is_some()
+}
+
 /// `tuple V1 .. Vn`, which belongs to the last relation.
+#[tactic(auto, unfolding(pol_defs::specs::Grammar::tuple_line))]
 fn tuple_line(alloc: Global, language: &mut Language, line: &Line<'_>) -> Result<(), LineFail>
     requires some { 0 < length language.old.relations }
     ensures changes { Changes result language.new (tuple_line language.old line.now.tokens) }
 {
-    let last = language.relation(language.len() - 1);
-    let arity = last.arity() as usize;
+    let arity = language.relation(language.len() - 1).arity() as usize;
     let given = line.count().saturating_sub(1);
     if given < arity {
         return Err(LineFail::Refused(Word::ShortTuple));
@@ -128,22 +147,50 @@ fn tuple_line(alloc: Global, language: &mut Language, line: &Line<'_>) -> Result
     if arity < given {
         return Err(LineFail::Refused(Word::LongTuple));
     }
-    let mut tokens = line.tokens();
-    let _keyword = tokens.next();
-    let tuple = values(alloc, language.domain(), tokens)?;
-    if last.has(tuple.as_slice()) {
+    let tuple = values_behind_keyword(alloc, language.domain(), line)?;
+    add_tuple(language, tuple.as_slice())
+}
+
+/// Adds the tuple to the last relation, where it is new.
+#[tactic(auto, unfolding(pol_defs::specs::Grammar::with_tuple))]
+fn add_tuple(language: &mut Language, tuple: &[u8]) -> Result<(), LineFail>
+    requires some { 0 < length language.old.relations }
+    requires tuple { IsTuple (last_of language.old).domain (last_of language.old).arity tuple.now }
+    ensures changes { Changes result language.new (with_tuple language.old tuple.now) }
+{
+    let last = language.relation(language.len() - 1);
+    if is_row(last, tuple) {
         return Ok(());
     }
     if MOST_TUPLES <= last.len() {
         return Err(LineFail::Refused(Word::TooManyTuples));
     }
-    language.insert(tuple.as_slice())?;
+    language.insert(tuple)?;
     Ok(())
+}
+
+/// Whether the tuple is a row.
+fn is_row(relation: &Relation, tuple: &[u8]) -> bool
+    requires tuple { IsTuple relation.now.domain relation.now.arity tuple.now }
+    ensures row { result ≡ has_row relation.now.rows tuple.now }
+{
+    relation.has(tuple)
+}
+
+/// The values that the tokens behind the keyword write.
+fn values_behind_keyword(alloc: Global, d: Domain, line: &Line<'_>) -> Result<Values, LineFail>
+    ensures values { Takes result (values_of d (drop 1 line.now.tokens)) }
+    ensures tuple { IfOk result (IsTuple d (length line.now.tokens - 1)) }
+{
+    let mut tokens = line.tokens();
+    let _keyword = tokens.next();
+    values(alloc, d, tokens)
 }
 
 /// The values that the tokens write, judged from left to right.
 fn values(alloc: Global, d: Domain, tokens: Tokens<'_>) -> Result<Values, LineFail>
-    ensures values { Takes result (values_of d tokens) }
+    ensures values { Takes result (values_of d tokens.entry) }
+    ensures tuple { IfOk result (IsTuple d (length tokens.entry)) }
 {
     let mut values = Values::new(alloc);
     for token in tokens {

@@ -1,28 +1,13 @@
 ghost use Rattle.std.specs.Prelude.{◌≡◌};
 
 use pol_base::NoMemory;
-use pol_relation::AddFault;
-use pol_text::{ReadFail, Refusal, Word};
+use pol_text::Word;
 
 /// Why a line was not read.
 #[derive(Clone, Copy, Debug, PartialEq, Eq)]
 pub(crate) enum LineFail {
     Refused(Word),
     NoMemory,
-}
-
-impl LineFail {
-    ghost use Rattle.pol_lang.specs.Reading.{fail_at};
-
-    /// The failure of the line with the number.
-    pub(crate) fn at(self, number: u32) -> ReadFail
-        ensures at { result ≡ fail_at number self }
-    {
-        match self {
-            LineFail::Refused(word) => ReadFail::Refused(Refusal { line: number, word }),
-            LineFail::NoMemory => ReadFail::NoMemory,
-        }
-    }
 }
 
 impl From<Word> for LineFail {

@@ -1,10 +1,12 @@
 ghost use Rattle.std.specs.Prelude.{◌≡◌, ◌+◌, ◌≤◌, ◌^◌, length, Some, None, OnOk, IfOk, IfErr};
-ghost use Rattle.pol_defs.specs.Lines.{lines_of};
+ghost use Rattle.pol_defs.specs.Lines.{lines_of, significant_lines};
 ghost use Rattle.pol_defs.specs.Grammar.{parse, extra, rest_of_file};
-ghost use Rattle.pol_lang.specs.Reading.{Reads};
+ghost use Rattle.pol_defs.specs.Spelling.{IsSpelled};
+ghost use Rattle.pol_lang.specs.Reading.{Reads, parsed_of};
 
 use crate::entries::{begins_with, domain_line, end_line, entry_line, header_line};
 use crate::file::{File, Rest};
+use crate::line_fail::LineFail;
 use pol_relation::Language;
 use pol_text::{Lines, ReadFail, Refusal, Word, count_lines, significant};
 use std::alloc::Global;
@@ -12,9 +14,12 @@ use std::alloc::Global;
 /// The file that the text begins with, and where it ends there. What stands behind is not looked at.
 /// Every other text is refused with its first refusal: `NoHeader` where there is no significant line
 /// and `Ended` where the `end` line is missing, both at the number of lines plus 1.
+#[tactic(auto, unfolding(pol_defs::specs::Grammar::parse))]
 pub fn read_file(alloc: Global, bytes: &[u8]) -> Result<(File, Rest), ReadFail>
     requires few { length bytes.now ≤ 2 ^ 28 }
-    ensures reads { Reads (λ read. record { file = read.0; place = read.1.place; line = read.1.line }) result (parse bytes.now) }
+    ensures reads { Reads parsed_of result (parse bytes.now) }
+    // What is accepted is spelled so.
+    ensures spelled { IfOk result (λ read. IsSpelled (significant_lines 1 bytes.now) (parsed_of read)) }
     ensures place { IfOk result (λ read. read.1.place ≤ length bytes.now) }
     ensures line { IfOk result (λ read. read.1.line ≤ length bytes.now + 1) }
 {
@@ -42,7 +47,7 @@ fn rest_of_file(
     mut lines: Lines<'_>,
 ) -> Result<(File, Rest), ReadFail>
     requires few { length bytes.now ≤ 2 ^ 28 }
-    ensures reads { Reads (λ read. record { file = read.0; place = read.1.place; line = read.1.line }) result (rest_of_file language (length (lines_of bytes.now) + 1) lines) }
+    ensures reads { Reads parsed_of result (rest_of_file language (length (lines_of bytes.now) + 1) lines.entry) }
 {
     while let Some(line) = lines.next() {
         if begins_with(&line, b"end") {
@@ -57,25 +62,31 @@ fn rest_of_file(
                 Err(word) => Err(refused(line.number(), word)),
             };
         }
-        if let Err(fail) = entry_line(alloc, &mut language, &line) {
-            return Err(fail.at(line.number()));
+        match entry_line(alloc, &mut language, &line) {
+            Ok(()) => {}
+            Err(LineFail::Refused(word)) => return Err(refused(line.number(), word)),
+            Err(LineFail::NoMemory) => return Err(ReadFail::NoMemory),
         }
     }
     Err(ended(bytes, Word::Ended))
 }
 
-fn refused(line: u32, word: Word) -> ReadFail {
+fn refused(line: u32, word: Word) -> ReadFail
+    ensures refused { result ≡ ReadFail.Refused (record { line = line; word = word }) }
+{
     ReadFail::Refused(Refusal { line, word })
 }
 
 /// The refusal of a text that ends too early.
 fn ended(bytes: &[u8], word: Word) -> ReadFail
     requires few { length bytes.now ≤ 2 ^ 28 }
+    ensures refused { result ≡ ReadFail.Refused (record { line = length (lines_of bytes.now) + 1; word = word }) }
 {
     refused(count_lines(bytes) + 1, word)
 }
 
 /// Refuses the text where a significant line stands from the place on. Takes no memory.
+#[tactic(auto, unfolding(pol_defs::specs::Grammar::extra))]
 pub fn nothing_more(bytes: &[u8], rest: Rest) -> Result<(), Refusal>
     requires few { length bytes.now ≤ 2 ^ 28 }
     requires place { rest.place ≤ length bytes.now }

@@ -1,0 +1,18 @@
+use Rattle.std.proofs.Common.{rules}
+use Rattle.pol_defs.specs.Grammar.{parse}
+use Rattle.pol_lang.specs.Reading.{Reads, parsed_of}
+use Rattle.pol_lang.proofs.ReadLemmas.{read_spelled, read_place, read_line}
+use Rattle.pol_lang.proofs.reading.read_file.Goals as goal
+
+pub returns-in-Ok-clause-reads : goal.returns-in-Ok-clause-reads
+unfolding parse
+returns-in-Ok-clause-reads c = search rules
+
+pub returns-in-Ok-clause-spelled : goal.returns-in-Ok-clause-spelled
+returns-in-Ok-clause-spelled c = read_spelled c.args.bytes.now c.rest_of_file.result (returns-in-Ok-clause-reads c)
+
+pub returns-in-Ok-clause-place : goal.returns-in-Ok-clause-place
+returns-in-Ok-clause-place c = read_place c.args.bytes.now c.rest_of_file.result (returns-in-Ok-clause-reads c)
+
+pub returns-in-Ok-clause-line : goal.returns-in-Ok-clause-line
+returns-in-Ok-clause-line c = read_line c.args.bytes.now c.rest_of_file.result (returns-in-Ok-clause-reads c)
