@@ -7,9 +7,8 @@ use Rattle.std.proofs.lemmas.List.{get_or-map, map-append, length-map}
 use Rattle.std.proofs.lemmas.List.Quantifiers.{position-Some}
 use Rattle.std.proofs.lemmas.List.Elements.{Contains-append_right}
 use Rattle.std.proofs.lemmas.Map.Made.{Contains-tail}
-use Rattle.indexmap.specs.IndexMap.{IndexMap, insert_entry}
+use Rattle.indexmap.specs.IndexMap.{IndexMap, insert_entry, set_value_at}
 use Rattle.indexmap.proofs.CallerLemmas.{insert_entry-new}
-use Rattle.indexmap.specs.IndexMap.{set_value_at}
 use Rattle.pol_defs.specs.Relations.{RelationView, no_relation, IsLanguage, last_of, with_row_at_last}
 use Rattle.pol_defs.specs.Tuples.{IsTuple}
 use Rattle.pol_defs.proofs.RelationLemmas.{relation_with_row, IsLanguage-with_last_row}

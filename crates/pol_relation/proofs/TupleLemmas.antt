@@ -11,10 +11,7 @@ use Rattle.pol_defs.proofs.RelationLemmas.{AreLong, AreLong-tuples, relation_wit
 pub record AreRead (rows left all : List (List ℕ)) : Type 0 where
   pub members : (t : List ℕ) → (Contains rows t ⊎ Contains left t) ↔ Contains all t
 
-pub AreRead-none : (all : List (List ℕ)) → AreRead [] all all
-AreRead-none all = record { members = λ t. (λ either. elim either [ inl row ↦ absurd (Contains-nil t row) | inr left ↦ left ], λ member. inr member) }
-
-pub AreRead-more : (n : ℕ) (x : List ℕ) (rows left all : List (List ℕ)) → length x ≡ n → AreLong n rows → AreRead rows (x ∷ left) all → AreRead (with_row x rows) left all
+AreRead-more : (n : ℕ) (x : List ℕ) (rows left all : List (List ℕ)) → length x ≡ n → AreLong n rows → AreRead rows (x ∷ left) all → AreRead (with_row x rows) left all
 AreRead-more n x rows left all x-long rows-long read = record {
   members = λ t. (
     λ either. elim either [
@@ -34,7 +31,7 @@ AreRead-more n x rows left all x-long rows-long read = record {
   );
 }
 
-pub SameMembers-from_read : (rows all : List (List ℕ)) → AreRead rows [] all → SameMembers rows all
+SameMembers-from_read : (rows all : List (List ℕ)) → AreRead rows [] all → SameMembers rows all
 SameMembers-from_read rows all read t =
     (λ row. (read.members t).0 (inl row), λ member. elim ((read.members t).1 member) [ inl row ↦ row | inr left ↦ absurd (Contains-nil t left) ])
 
@@ -57,12 +54,12 @@ le-whole size n some n-some whole = by (size / n) (div-add-mod' size n)
     by zero parts = absurd (omega arith)
     by (suc q) parts = omega arith
 
-pub whole-less : (size n : ℕ) → n ≤ size → 1 ≤ n → size % n ≡ 0 → (size - n) % n ≡ 0
+whole-less : (size n : ℕ) → n ≤ size → 1 ≤ n → size % n ≡ 0 → (size - n) % n ≡ 0
 whole-less size n inside some whole =
     let off = last_off size n inside some in
     ap (λ left. left % n) off.2 ∙ mod-mul-add off.0 n (size % n) (mod_below size n some) ∙ whole
 
-pub quotient-less : (size n : ℕ) → n ≤ size → 1 ≤ n → size / n ≡ suc ((size - n) / n)
+quotient-less : (size n : ℕ) → n ≤ size → 1 ≤ n → size / n ≡ suc ((size - n) / n)
 quotient-less size n inside some =
     let off = last_off size n inside some in
     off.1 ∙ ap suc (sym (ap (λ left. left / n) off.2 ∙ div-mul-add off.0 n (size % n) (mod_below size n some)))
@@ -70,12 +67,12 @@ quotient-less size n inside some =
 none_left : (n : ℕ) → 1 ≤ n → 0 / n ≡ 0
 none_left n some = let below : 0 / n < 1 = div_below 0 n 1 some (omega arith) in omega arith
 
-pub tuples_in-more : (n : ℕ) (values : List ℕ) → n ≤ length values → 1 ≤ n → tuples_in n (length values / n) values ≡ take n values ∷ tuples_in n (length (drop n values) / n) (drop n values)
+tuples_in-more : (n : ℕ) (values : List ℕ) → n ≤ length values → 1 ≤ n → tuples_in n (length values / n) values ≡ take n values ∷ tuples_in n (length (drop n values) / n) (drop n values)
 tuples_in-more n values inside n-some =
     let one : length values / n ≡ suc (length (drop n values) / n) = quotient-less (length values) n inside n-some ∙ sym (ap (λ l. suc (l / n)) (length-drop n values)) in
     ap (λ count. tuples_in n count values) one
 
-pub IsTuple-take : (d n : ℕ) (values : List ℕ) → n ≤ length values → All (λ v. v < d) values → IsTuple d n (take n values)
+IsTuple-take : (d n : ℕ) (values : List ℕ) → n ≤ length values → All (λ v. v < d) values → IsTuple d n (take n values)
 IsTuple-take d n values inside below = record { long = length-take-le n values inside; below = All-take (λ v. v < d) n values below }
 
 -- the relation has the tuples that were read, and a whole number of tuples is left

@@ -144,3 +144,48 @@ impl Language {
         }
     }
 }
+
+#[cfg(test)]
+mod tests {
+    use super::*;
+    use std::test::Fail;
+
+    #[test]
+    fn numbers_its_relations_as_they_come(rt: HostRuntime) -> Result<(), Fail> {
+        let alloc = rt.alloc();
+        let d = Domain::new(2).expect(&rt, "two values");
+        let mut language = Language::new(alloc, d);
+        let first = Relation::from_rows(alloc, d, 2, &[])?;
+        assert_eq!(rt; language.add(b"neq", first), Ok(0));
+        let second = Relation::from_rows(alloc, d, 1, &[])?;
+        assert_eq!(rt; language.add(b"ne", second), Ok(1));
+        let repeated = Relation::from_rows(alloc, d, 3, &[])?;
+        assert_eq!(rt; language.add(b"neq", repeated), Err(AddFault::Repeated));
+        assert_eq!(rt; language.len(), 2);
+        for (name, number) in [
+            (b"neq".as_slice(), Some(0)),
+            (b"ne".as_slice(), Some(1)),
+            (b"n".as_slice(), None),
+        ] {
+            assert_eq!(rt; language.find(name), number, "at {name:?}");
+        }
+        assert_eq!(rt; language.name(1), b"ne".as_slice());
+        assert_eq!(rt; language.relation(0).arity(), 2);
+        Ok(())
+    }
+
+    #[test]
+    fn a_tuple_goes_into_the_last_relation(rt: HostRuntime) -> Result<(), Fail> {
+        let alloc = rt.alloc();
+        let d = Domain::new(2).expect(&rt, "two values");
+        let mut language = Language::new(alloc, d);
+        language.add(b"none", Relation::from_rows(alloc, d, 1, &[])?)?;
+        language.add(b"all", Relation::from_rows(alloc, d, 1, &[1])?)?;
+        language.insert(&[0])?;
+        language.insert(&[1])?;
+        assert_eq!(rt; language.relation(0).len(), 0);
+        assert_eq!(rt; language.relation(1).len(), 2);
+        assert_eq!(rt; language.relation(1).row(0), [0].as_slice());
+        Ok(())
+    }
+}

@@ -151,3 +151,57 @@ impl Relation {
         self.rows.binary_search_by(|row| row.as_slice().cmp(tuple))
     }
 }
+
+#[cfg(test)]
+mod tests {
+    use super::*;
+    use std::test::Fail;
+
+    #[test]
+    fn rows_stand_in_order_each_once(rt: HostRuntime) -> Result<(), Fail> {
+        let d = Domain::new(3).expect(&rt, "three values");
+        let cases = [
+            (1u32, [].as_slice(), [].as_slice()),
+            (1, [2, 0, 2].as_slice(), [0, 2].as_slice()),
+            (
+                2,
+                [2, 0, 0, 1, 2, 0, 0, 0].as_slice(),
+                [0, 0, 0, 1, 2, 0].as_slice(),
+            ),
+            (
+                6,
+                [2, 1, 0, 2, 1, 0, 2, 1, 0, 2, 0, 1].as_slice(),
+                [2, 1, 0, 2, 0, 1, 2, 1, 0, 2, 1, 0].as_slice(),
+            ),
+        ];
+        for (arity, tuples, rows) in cases {
+            assert!(rt; 1 <= arity && arity <= 6);
+            assert!(rt; tuples.len() % arity as usize == 0);
+            assert!(rt; tuples.iter().all(|value| *value < d.size()));
+            let relation = Relation::from_rows(rt.alloc(), d, arity, tuples)?;
+            let mut read = Values::new(rt.alloc());
+            for i in 0..relation.len() {
+                assert!(rt; relation.has(relation.row(i)));
+                read.append(relation.row(i))?;
+            }
+            assert_eq!(rt; read.as_slice(), rows, "at {tuples:?}");
+            assert_eq!(rt; relation.is_empty(), rows.is_empty(), "at {tuples:?}");
+        }
+        Ok(())
+    }
+
+    #[test]
+    fn has_its_rows_alone(rt: HostRuntime) -> Result<(), Fail> {
+        let d = Domain::new(3).expect(&rt, "three values");
+        let mut relation = Relation::from_rows(rt.alloc(), d, 2, &[2, 0])?;
+        relation.insert(&[0, 1])?;
+        let copy = relation.copy()?;
+        for x in 0..3 {
+            for y in 0..3 {
+                let is_row = (x, y) == (2, 0) || (x, y) == (0, 1);
+                assert_eq!(rt; copy.has(&[x, y]), is_row, "at {x} {y}");
+            }
+        }
+        Ok(())
+    }
+}
