@@ -7,4 +7,5 @@ pub mod GrammarLemmas
 pub mod AcceptedLines
 pub mod SpellingLemmas
 pub mod ReportLemmas
+pub mod LogExamples
 pub mod Examples

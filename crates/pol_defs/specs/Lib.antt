@@ -1,6 +1,8 @@
 pub mod Tuples
 pub mod Relations
 pub mod Operations
+pub mod Instances
+pub mod Nogoods
 pub mod Least
 pub mod Classes
 pub mod Texts
