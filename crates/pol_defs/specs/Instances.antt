@@ -1,5 +1,5 @@
 -- Constraint instances over a language, and their solutions.
-use Rattle.std.specs.Prelude.{◌≡◌, ◌≢◌, ℕ, ◌<◌, ◌≤◌, List, [], length, map, slice_index, slice_index_or, All, AllPairs, Contains}
+use Rattle.std.specs.Prelude.{◌≡◌, ◌≢◌, ℕ, ◌<◌, ◌≤◌, List, [], ◌∷◌, ◌++◌, length, map, slice_index, slice_index_or, All, AllPairs, Contains}
 use Rattle.pol_defs.specs.Tuples.{IsTuple}
 use Rattle.pol_defs.specs.Relations.{LanguageView, relation_of, rows_of}
 
@@ -53,3 +53,11 @@ Meets lang c assignment = Contains (rows_of lang c.relation) (read_at assignment
 pub record IsSolution (lang : LanguageView) (inst : InstanceView) (assignment : List ℕ) : Type 0 where
   pub assigns : IsTuple lang.domain (length inst.variables) assignment
   pub meets : All (λ c. Meets lang c assignment) inst.constraints
+
+-- the instance with a further variable, the last
+abbrev pub with_variable : InstanceView → List ℕ → InstanceView
+with_variable inst name = record { name = inst.name; variables = inst.variables ++ name ∷ []; constraints = inst.constraints }
+
+-- the instance with a further constraint, the last
+abbrev pub with_constraint : InstanceView → ConstraintView → InstanceView
+with_constraint inst c = record { name = inst.name; variables = inst.variables; constraints = inst.constraints ++ c ∷ [] }

@@ -1,8 +1,10 @@
 //! Relations, and the languages that they make.
 #![tactic(auto)]
 
+mod instance;
 mod language;
 mod relation;
 
+pub use instance::Instance;
 pub use language::{AddFault, Language};
 pub use relation::Relation;
