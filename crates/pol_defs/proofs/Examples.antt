@@ -3,12 +3,12 @@ use Rattle.std.specs.Prelude.{◌≡◌, ℕ, List, [], ◌∷◌, ◌++◌, Som
 use Rattle.pol_defs.specs.Refusals.{RefusalView}
 use Rattle.pol_defs.specs.Refusals.Word.{NoHeader, BadVersion, Ended, BadLine}
 use Rattle.pol_defs.specs.Files.{Parsed}
-use Rattle.pol_defs.specs.Grammar.{parse, extra, header_line, domain_line, relation_line, with_tuple, tuple_line, entry_line}
+use Rattle.pol_defs.specs.Grammar.{parse, extra, header_line, domain_line, relation_line, begun_relation, with_tuple, tuple_line, language_line, instance_line, with_scope, constraint_line, entry_line}
 
 abbrev small : List ℕ
 small = codes "polyanna 1\ndomain 2\nend\n"
 
-small_is_a_file : parse small ≡ Ok (record { file = record { language = record { domain = 2; relations = [] } }; place = 24; line = 4 })
+small_is_a_file : parse small ≡ Ok (record { file = record { language = record { domain = 2; relations = [] }; instances = [] }; place = 24; line = 4 })
 unfolding parse header_line domain_line entry_line
 small_is_a_file = refl
 
@@ -19,6 +19,6 @@ nothing_has_no_header = refl
 abbrev unequal : List ℕ
 unequal = codes "polyanna 1\n# two values\n\tdomain  2 \r\nrelation neq 2\ntuple 1 0\ntuple 00 1\ntuple 1 0\nend"
 
-unequal_is_a_file : parse unequal ≡ Ok (record { file = record { language = record { domain = 2; relations = (codes "neq", record { domain = 2; arity = 2; rows = (0 ∷ 1 ∷ []) ∷ (1 ∷ 0 ∷ []) ∷ [] }) ∷ [] } }; place = 86; line = 9 })
-unfolding parse header_line domain_line relation_line with_tuple tuple_line entry_line
+unequal_is_a_file : parse unequal ≡ Ok (record { file = record { language = record { domain = 2; relations = (codes "neq", record { domain = 2; arity = 2; rows = (0 ∷ 1 ∷ []) ∷ (1 ∷ 0 ∷ []) ∷ [] }) ∷ [] }; instances = [] }; place = 86; line = 9 })
+unfolding parse header_line domain_line relation_line begun_relation with_tuple tuple_line language_line entry_line
 unequal_is_a_file = refl

@@ -8,4 +8,5 @@ pub mod AcceptedLines
 pub mod SpellingLemmas
 pub mod ReportLemmas
 pub mod LogExamples
+pub mod RefusedTexts
 pub mod Examples

@@ -1,5 +1,5 @@
 -- Relations and constraint languages.
-use Rattle.std.specs.Prelude.{◌≡◌, ◌≢◌, ℕ, zero, suc, ◌-◌, ◌≤◌, ◌↔◌, Bool, List, [], ◌∷◌, ◌++◌, length, take, drop, map, nat_eq, All, AllPairs, Contains, slice_index_or, if◌then◌else◌}
+use Rattle.std.specs.Prelude.{◌≡◌, ◌≢◌, ℕ, zero, suc, ◌+◌, ◌-◌, ◌≤◌, ◌↔◌, Bool, List, [], ◌∷◌, ◌++◌, length, take, drop, map, Option, Some, None, option_map, nat_eq, All, AllPairs, Contains, slice_index_or, if◌then◌else◌}
 use Rattle.std.specs.List.{list_any}
 use Rattle.std.specs.Cmp.Lexicographic.{pointwise, slice_cmp}
 use Rattle.std.specs.Ordering.{nat_cmp, is_lt, is_eq}
@@ -59,13 +59,22 @@ names_of lang = map (λ e. e.0) lang.relations
 abbrev pub is_same : List ℕ → List ℕ → Bool
 is_same xs ys = pointwise nat_eq xs ys
 
+-- the list is one of the lists
+abbrev pub is_among : List (List ℕ) → List ℕ → Bool
+is_among lists xs = list_any (λ ys. is_same ys xs) lists
+
 -- a relation of the language has the name
 abbrev pub has_name : LanguageView → List ℕ → Bool
 has_name lang name = list_any (λ e. is_same e.0 name) lang.relations
 
+-- the place of the first of the lists that is this one
+abbrev pub place_in : List (List ℕ) → List ℕ → Option ℕ
+place_in [] xs = None
+place_in (ys ∷ lists) xs = if is_same ys xs then Some 0 else option_map (λ place. place + 1) (place_in lists xs)
+
 -- the tuple is a row
 abbrev pub has_row : List (List ℕ) → List ℕ → Bool
-has_row rows t = list_any (λ row. is_same row t) rows
+has_row rows t = is_among rows t
 
 -- ascending rows, and the tuple in its place: the same rows where it is one of them
 abbrev pub with_row : List ℕ → List (List ℕ) → List (List ℕ)

@@ -1,7 +1,8 @@
 -- What a report of a file is, and what a begun one is.
-use Rattle.std.specs.Prelude.{◌≡◌, ℕ, zero, suc, ◌<◌, List, [], ◌∷◌, ◌++◌, length, Option, Some, None, codes, decimal, slice_index_or}
+use Rattle.std.specs.Prelude.{◌≡◌, ℕ, zero, suc, ◌<◌, List, [], ◌∷◌, ◌++◌, length, Option, Some, None, codes, slice_index_or}
 use Rattle.pol_defs.specs.Classes.{Class, class_word, ConstantLine}
 use Rattle.pol_defs.specs.Classes.Class.{Constant}
+use Rattle.pol_defs.specs.Texts.{spaced}
 use Rattle.pol_defs.specs.Files.{FileView}
 
 abbrev pub head_line : List ℕ
@@ -9,11 +10,6 @@ head_line = codes "polyanna-report 1\n"
 
 abbrev pub last_line : List ℕ
 last_line = codes "end\n"
-
--- the numbers, each behind a space
-abbrev pub spaced : List ℕ → List ℕ
-spaced [] = []
-spaced (n ∷ ns) = codes " " ++ decimal n ++ spaced ns
 
 -- the line of a class: its table, or `none`
 abbrev pub class_line : Class → Option (List ℕ) → List ℕ

@@ -1,9 +1,10 @@
 -- How a file is spelled: the tokens of the lines that say it, in a reader's terms.
-use Rattle.std.specs.Prelude.{◌≡◌, ℕ, ◌≤◌, true, List, [], ◌∷◌, ◌++◌, length, map, flat_map, Some, None, Option, codes, All, Any}
+use Rattle.std.specs.Prelude.{◌≡◌, ℕ, ◌+◌, true, List, [], ◌∷◌, ◌++◌, map, flat_map, Some, None, Option, codes, slice_index_or, All, Any}
 use Rattle.std.specs.List.{AllZip}
-use Rattle.pol_defs.specs.Relations.{RelationView, IsLanguage}
+use Rattle.pol_defs.specs.Relations.{RelationView, LanguageView, name_of}
+use Rattle.pol_defs.specs.Instances.{ConstraintView, InstanceView}
 use Rattle.pol_defs.specs.Lines.{LineView, number_of, is_name}
-use Rattle.pol_defs.specs.Files.{FileView, Parsed}
+use Rattle.pol_defs.specs.Files.{Parsed, IsFile}
 
 -- the tokens write the values, one each
 abbrev pub Write : List (List ℕ) → List ℕ → Type 0
@@ -27,11 +28,13 @@ pub record Spells (block : Block) (named : List ℕ × RelationView) : Type 0 wh
   pub rows_only : All (λ tokens. Any (Write tokens) named.1.rows) block.tuples
   pub each_row : All (λ row. Any (λ tokens. Write tokens row) block.tuples) named.1.rows
 
--- within the limits on relations and tuples
-pub record IsWithinLimits (file : FileView) : Type 0 where
-  pub is_language : IsLanguage file.language
-  pub few_relations : length file.language.relations ≤ 32
-  pub few_tuples : All (λ named. length named.1.rows ≤ 128) file.language.relations
+-- the tokens behind the keyword of a constraint's line: the names of its relation and of its variables
+abbrev pub constraint_tokens : LanguageView → InstanceView → ConstraintView → List (List ℕ)
+constraint_tokens lang inst c = name_of lang c.relation ∷ map (λ x. slice_index_or inst.variables x []) c.scope
+
+-- the tokens of each line of the instance
+abbrev pub instance_lines : LanguageView → InstanceView → List (List (List ℕ))
+instance_lines lang inst = (codes "instance" ∷ inst.name ∷ inst.variables) ∷ map (λ c. codes "constraint" ∷ constraint_tokens lang inst c) inst.constraints
 
 -- the first of the lines, up to the one behind which the file ends, say the file
 pub record IsSpelled (lines : List LineView) (found : Parsed) : Type 0 where
@@ -44,8 +47,9 @@ pub record IsSpelled (lines : List LineView) (found : Parsed) : Type 0 where
   pub version_is : number_of version ≡ Some 1
   pub domain_is : number_of domain ≡ Some found.file.language.domain
   pub relations_are : AllZip Spells blocks found.file.language.relations
-  pub within : IsWithinLimits found.file
+  pub is_file : IsFile found.file
   pub lines_are : lines ≡ front ++ last ∷ rest
-  pub front_is : map (λ l. l.tokens) front ≡ (codes "polyanna" ∷ version ∷ []) ∷ (codes "domain" ∷ domain ∷ []) ∷ flat_map block_lines blocks
+  pub front_is : map (λ l. l.tokens) front ≡ (codes "polyanna" ∷ version ∷ []) ∷ (codes "domain" ∷ domain ∷ []) ∷ flat_map block_lines blocks ++ flat_map (instance_lines found.file.language) found.file.instances
   pub last_is : last.tokens ≡ codes "end" ∷ []
   pub place_is : found.place ≡ last.after
+  pub line_is : found.line ≡ last.number + 1
