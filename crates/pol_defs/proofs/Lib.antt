@@ -4,6 +4,7 @@ pub mod RelationLemmas
 pub mod ConstantLemmas
 pub mod LineLemmas
 pub mod GrammarLemmas
+pub mod FileLemmas
 pub mod AcceptedLines
 pub mod SpellingLemmas
 pub mod ReportLemmas

@@ -1,0 +1,183 @@
+-- Files: what building one from its parts keeps of the limits, the names and the instances.
+use Rattle.std.proofs.Common.{◌≡◌, ◌≢◌, ℕ, zero, suc, ◌+◌, ◌-◌, ◌^◌, ◌<◌, ◌≤◌, Bool, true, false, cond, List, [], ◌∷◌, ◌++◌, length, map, Option, Some, None, get_or, All, AllPairs, Contains, refl, sym, ap, ◌∙◌, subst, arith, option_map}
+use Rattle.std.specs.Bool.{Decides}
+use Rattle.std.proofs.lemmas.List.{get_or-map, length-map, length_push}
+use Rattle.std.proofs.lemmas.List.Elements.{All-nil, All-cons, All-head, All-tail, All-push, All-get_or}
+use Rattle.std.proofs.lemmas.List.Quantifiers.{all_pairs_push}
+use Rattle.pol_defs.specs.Tuples.{IsDomain, IsTuple}
+use Rattle.pol_defs.specs.Relations.{RelationView, IsRelationOver, LanguageView, IsLanguage, no_relation, last_of, names_of, is_same, place_in, with_row, with_relation, with_row_at_last, with_last_row}
+use Rattle.pol_defs.specs.Instances.{ConstraintView, InstanceView, IsScope, IsInstance, FitsAt, with_constraint}
+use Rattle.pol_defs.specs.Lines.{is_name}
+use Rattle.pol_defs.specs.Files.{weight_of, subset_weight_of, most_weight, IsFileLanguage, IsFileInstance, FileView, IsFile, no_instance, last_instance, with_instance, with_constraint_at_last, with_last_constraint}
+use Rattle.pol_defs.specs.Grammar.{instance_names, begun_file}
+use Rattle.pol_defs.proofs.RelationLemmas.{Named, IsPlaceOf, AllPairs-nil, is_same-decides, relation_with_row, length-with_relation, length-with_last_row, IsLanguage-begun, IsLanguage-with_relation, IsLanguage-with_last_row}
+
+-- ---- places
+
+place_behind : (ys xs : List ℕ) (lists : List (List ℕ)) (place : Option ℕ) (i : ℕ) → ((k : ℕ) → place ≡ Some k → IsPlaceOf xs lists k) → option_map (λ k. k + 1) place ≡ Some i → IsPlaceOf xs (ys ∷ lists) i
+place_behind ys xs lists None i found e = cc
+place_behind ys xs lists (Some k) i found e =
+    let here = found k refl in
+    let next : k + 1 ≡ i = cc in
+    let same : suc k ≡ i = omega (arith, next) in
+    subst (IsPlaceOf xs (ys ∷ lists)) same (record { inside = omega (arith, here.inside); found = here.found })
+
+-- the list stands at the place that was found
+pub place_in-found : (lists : List (List ℕ)) (xs : List ℕ) (i : ℕ) → place_in lists xs ≡ Some i → IsPlaceOf xs lists i
+place_in-found [] xs i e = cc
+place_in-found (ys ∷ lists) xs i e = by_test (is_same ys xs) (is_same-decides ys xs) (λ k h. place_in-found lists xs k h) e
+  where
+    by_test : (t : Bool) → Decides t (ys ≡ xs) → ((k : ℕ) → place_in lists xs ≡ Some k → IsPlaceOf xs lists k) → cond t (Some 0) (option_map (λ k. k + 1) (place_in lists xs)) ≡ Some i → IsPlaceOf xs (ys ∷ lists) i
+    by_test true decides later h =
+        let first : 0 ≡ i = cc in
+        subst (IsPlaceOf xs (ys ∷ lists)) first (record { inside = omega arith; found = decides.0 refl })
+    by_test false decides later h = place_behind ys xs lists (place_in lists xs) i later h
+
+-- ---- the sums
+
+pub weight_of-push : (k : ℕ) (relations : List Named) (e : Named) → weight_of k (relations ++ e ∷ []) ≡ weight_of k relations + length e.1.rows ^ k
+weight_of-push k [] e = omega arith
+weight_of-push k (f ∷ rest) e = omega (arith, weight_of-push k rest e)
+
+pub subset_weight_of-push : (d : ℕ) (relations : List Named) (e : Named) → subset_weight_of d (relations ++ e ∷ []) ≡ subset_weight_of d relations + (2 ^ d - 1) ^ e.1.arity
+subset_weight_of-push d [] e = omega arith
+subset_weight_of-push d (f ∷ rest) e = omega (arith, subset_weight_of-push d rest e)
+
+pub subset_weight_of-with_row_at_last : (d : ℕ) (t : List ℕ) (relations : List Named) → subset_weight_of d (with_row_at_last t relations) ≡ subset_weight_of d relations
+subset_weight_of-with_row_at_last d t [] = refl
+subset_weight_of-with_row_at_last d t (e ∷ []) = refl
+subset_weight_of-with_row_at_last d t (e ∷ f ∷ rest) = ap (λ n. (2 ^ d - 1) ^ e.1.arity + n) (subset_weight_of-with_row_at_last d t (f ∷ rest))
+
+-- ---- languages
+
+-- the relation that was added last, with its name
+abbrev pub last_named : List Named → Named
+last_named relations = get_or relations (length relations - 1) ([], no_relation)
+
+pub last_place : (n : ℕ) → suc n - 1 ≡ n
+last_place n = omega arith
+
+All-with_row_at_last : (P : Named → Type 0) (t : List ℕ) (e : Named) (rest : List Named) → All P (e ∷ rest) → (let last = get_or (e ∷ rest) (length rest) ([], no_relation) in P (last.0, relation_with_row last.1 t)) → All P (with_row_at_last t (e ∷ rest))
+All-with_row_at_last P t e [] all last = All-cons P (e.0, relation_with_row e.1 t) [] last (All-nil P)
+All-with_row_at_last P t e (f ∷ rest) all last = All-cons P e (with_row_at_last t (f ∷ rest)) (All-head P e (f ∷ rest) all) (All-with_row_at_last P t f rest (All-tail P e (f ∷ rest) all) last)
+
+few-with_row : (t : List ℕ) (relations : List Named) → All (λ e. length e.1.rows ≤ 128) relations → length (with_row t (last_named relations).1.rows) ≤ 128 → All (λ e. length e.1.rows ≤ 128) (with_row_at_last t relations)
+few-with_row t [] all few = all
+few-with_row t (e ∷ es) all few = All-with_row_at_last (λ f. length f.1.rows ≤ 128) t e es all (rw (last_place (length es)) at few)
+
+named-with_row : (t : List ℕ) (relations : List Named) → All (λ e. is_name e.0 ≡ true) relations → All (λ e. is_name e.0 ≡ true) (with_row_at_last t relations)
+named-with_row t [] all = all
+named-with_row t (e ∷ es) all = All-with_row_at_last (λ f. is_name f.0 ≡ true) t e es all (All-get_or (λ f. is_name f.0 ≡ true) (e ∷ es) (length es) ([], no_relation) (omega arith) all)
+
+pub IsFileLanguage-begun : (d : ℕ) → IsDomain d → IsFileLanguage (record { domain = d; relations = [] })
+IsFileLanguage-begun d domain = record {
+  is_language = IsLanguage-begun d domain;
+  names_are = All-nil (λ e. is_name e.0 ≡ true);
+  few_relations = omega arith;
+  few_tuples = All-nil (λ e. length e.1.rows ≤ 128);
+  few_triples = omega arith;
+  few_subsets = omega arith;
+}
+
+-- a new relation within the limits
+pub IsFileLanguage-with_relation : (lang : LanguageView) (name : List ℕ) (r : RelationView) → IsFileLanguage lang → IsRelationOver lang.domain r → is_name name ≡ true → (Contains (names_of lang) name → ⊥) → length lang.relations < 32 → length r.rows ≤ 128 → weight_of 3 lang.relations + length r.rows ^ 3 ≤ most_weight → subset_weight_of lang.domain lang.relations + (2 ^ lang.domain - 1) ^ r.arity ≤ most_weight → IsFileLanguage (with_relation lang name r)
+IsFileLanguage-with_relation lang name r is over named new few rows triples subsets = record {
+  is_language = IsLanguage-with_relation lang name r is.is_language over new;
+  names_are = All-push (λ e. is_name e.0 ≡ true) lang.relations (name, r) is.names_are named;
+  few_relations = omega (arith, few, length-with_relation lang name r);
+  few_tuples = All-push (λ e. length e.1.rows ≤ 128) lang.relations (name, r) is.few_tuples rows;
+  few_triples = rw (weight_of-push 3 lang.relations (name, r)) triples;
+  few_subsets = rw (subset_weight_of-push lang.domain lang.relations (name, r)) subsets;
+}
+
+-- a row more of the last relation, within the limits
+pub IsFileLanguage-with_last_row : (lang : LanguageView) (t : List ℕ) → IsFileLanguage lang → IsTuple (last_of lang).domain (last_of lang).arity t → length (with_row t (last_of lang).rows) ≤ 128 → weight_of 3 (with_last_row lang t).relations ≤ most_weight → IsFileLanguage (with_last_row lang t)
+IsFileLanguage-with_last_row lang t is tuple rows triples = record {
+  is_language = IsLanguage-with_last_row lang t is.is_language tuple;
+  names_are = named-with_row t lang.relations is.names_are;
+  few_relations = omega (arith, is.few_relations, length-with_last_row lang t);
+  few_tuples = few-with_row t lang.relations is.few_tuples rows;
+  few_triples = triples;
+  few_subsets = rw (subset_weight_of-with_row_at_last lang.domain t lang.relations) is.few_subsets;
+}
+
+-- ---- instances
+
+-- a constraint more of a relation of the language
+pub IsFileInstance-with_constraint : (lang : LanguageView) (inst : InstanceView) (c : ConstraintView) → IsFileInstance lang inst → FitsAt lang (length inst.variables) c → 1 ≤ length c.scope → length c.scope ≤ 6 → length inst.constraints < 256 → IsFileInstance lang (with_constraint inst c)
+IsFileInstance-with_constraint lang inst c is fits some few room = record {
+  is_instance = record {
+    distinct = is.is_instance.distinct;
+    scopes = All-push (λ one. IsScope (length inst.variables) one.scope) inst.constraints c is.is_instance.scopes (record { some_places = some; few_places = few; below = fits.below });
+  };
+  fits = All-push (FitsAt lang (length inst.variables)) inst.constraints c is.fits fits;
+  name_is = is.name_is;
+  names_are = is.names_are;
+  some_variables = is.some_variables;
+  few_variables = is.few_variables;
+  few_constraints = omega (arith, room, length_push inst.constraints c);
+}
+
+-- ---- files
+
+-- a language is a file without instances
+pub IsFile-without_instances : (lang : LanguageView) (instances : List InstanceView) → IsFileLanguage lang → length instances ≡ 0 → IsFile (record { language = lang; instances = instances })
+IsFile-without_instances lang instances is none = record {
+  language_is = is;
+  instances_are = λ k d inside. absurd (omega arith);
+  distinct = λ i j d less inside. absurd (omega arith);
+  few_instances = omega arith;
+}
+
+pub IsFile-begun : (d : ℕ) → IsDomain d → IsFile (begun_file d)
+IsFile-begun d domain = IsFile-without_instances (record { domain = d; relations = [] }) [] (IsFileLanguage-begun d domain) refl
+
+-- a new instance
+pub IsFile-with_instance : (file : FileView) (inst : InstanceView) → IsFile file → IsFileInstance file.language inst → (Contains (instance_names file) inst.name → ⊥) → length file.instances < 8 → IsFile (with_instance file inst)
+IsFile-with_instance file inst is fits new few = record {
+  language_is = is.language_is;
+  instances_are = All-push (IsFileInstance file.language) file.instances inst is.instances_are fits;
+  distinct = all_pairs_push (λ i j. i.name ≢ j.name) file.instances inst is.distinct (λ k d inside same.
+      new (k, omega (arith, length-map file.instances (λ i. i.name)), get_or-map (λ i. i.name) file.instances k d inst.name inside ∙ same));
+  few_instances = omega (arith, few, length_push file.instances inst);
+}
+
+pub length-with_constraint_at_last : (c : ConstraintView) (instances : List InstanceView) → length (with_constraint_at_last c instances) ≡ length instances
+length-with_constraint_at_last c [] = refl
+length-with_constraint_at_last c (inst ∷ []) = refl
+length-with_constraint_at_last c (inst ∷ next ∷ rest) = ap suc (length-with_constraint_at_last c (next ∷ rest))
+
+-- each instance keeps its name
+name-with_constraint_at_last : (c : ConstraintView) (instances : List InstanceView) (k : ℕ) (d : InstanceView) → (get_or (with_constraint_at_last c instances) k d).name ≡ (get_or instances k d).name
+name-with_constraint_at_last c [] k d = refl
+name-with_constraint_at_last c (inst ∷ []) zero d = refl
+name-with_constraint_at_last c (inst ∷ []) (suc k) d = refl
+name-with_constraint_at_last c (inst ∷ next ∷ rest) zero d = refl
+name-with_constraint_at_last c (inst ∷ next ∷ rest) (suc k) d = name-with_constraint_at_last c (next ∷ rest) k d
+
+pub instance_names-with_last_constraint : (file : FileView) (c : ConstraintView) → instance_names (with_last_constraint file c) ≡ instance_names file
+instance_names-with_last_constraint file c = same_names file.instances
+  where
+    same_names : (instances : List InstanceView) → map (λ inst. inst.name) (with_constraint_at_last c instances) ≡ map (λ inst. inst.name) instances
+    same_names [] = refl
+    same_names (inst ∷ []) = refl
+    same_names (inst ∷ next ∷ rest) = ap (λ names. inst.name ∷ names) (same_names (next ∷ rest))
+
+All-with_constraint_at_last : (P : InstanceView → Type 0) (c : ConstraintView) (inst : InstanceView) (rest : List InstanceView) → All P (inst ∷ rest) → (P (get_or (inst ∷ rest) (length rest) no_instance) → P (with_constraint (get_or (inst ∷ rest) (length rest) no_instance) c)) → All P (with_constraint_at_last c (inst ∷ rest))
+All-with_constraint_at_last P c inst [] all more = All-cons P (with_constraint inst c) [] (more (All-head P inst [] all)) (All-nil P)
+All-with_constraint_at_last P c inst (next ∷ rest) all more = All-cons P inst (with_constraint_at_last c (next ∷ rest)) (All-head P inst (next ∷ rest) all) (All-with_constraint_at_last P c next rest (All-tail P inst (next ∷ rest) all) more)
+
+instances-with_constraint : (P : InstanceView → Type 0) (c : ConstraintView) (instances : List InstanceView) → All P instances → (let last = get_or instances (length instances - 1) no_instance in P last → P (with_constraint last c)) → All P (with_constraint_at_last c instances)
+instances-with_constraint P c [] all more = all
+instances-with_constraint P c (inst ∷ rest) all more = All-with_constraint_at_last P c inst rest all (rw (last_place (length rest)) at more)
+
+-- a constraint more of the last instance
+pub IsFile-with_last_constraint : (file : FileView) (c : ConstraintView) → IsFile file → FitsAt file.language (length (last_instance file).variables) c → 1 ≤ length c.scope → length c.scope ≤ 6 → length (last_instance file).constraints < 256 → IsFile (with_last_constraint file c)
+IsFile-with_last_constraint file c is fits some few room = record {
+  language_is = is.language_is;
+  instances_are = instances-with_constraint (IsFileInstance file.language) c file.instances is.instances_are (λ last. IsFileInstance-with_constraint file.language (last_instance file) c last fits some few room);
+  distinct = λ i j d less inside same.
+      is.distinct i j d less (omega (arith, inside, length-with_constraint_at_last c file.instances))
+      (sym (name-with_constraint_at_last c file.instances i d) ∙ (same ∙ name-with_constraint_at_last c file.instances j d));
+  few_instances = omega (arith, is.few_instances, length-with_constraint_at_last c file.instances);
+}
