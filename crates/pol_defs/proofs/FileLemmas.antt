@@ -103,6 +103,18 @@ IsFileLanguage-with_last_row lang t is tuple rows triples = record {
 
 -- ---- instances
 
+-- an instance that is begun has no constraints
+pub IsFileInstance-begun : (lang : LanguageView) (name : List ℕ) (variables : List (List ℕ)) → is_name name ≡ true → All (λ x. is_name x ≡ true) variables → AllPairs (λ x y. x ≢ y) variables → 1 ≤ length variables → length variables ≤ 40 → IsFileInstance lang (record { name = name; variables = variables; constraints = [] })
+IsFileInstance-begun lang name variables named names distinct some few = record {
+  is_instance = record { distinct = distinct; scopes = All-nil (λ c. IsScope (length variables) c.scope) };
+  fits = All-nil (FitsAt lang (length variables));
+  name_is = named;
+  names_are = names;
+  some_variables = some;
+  few_variables = few;
+  few_constraints = omega arith;
+}
+
 -- a constraint more of a relation of the language
 pub IsFileInstance-with_constraint : (lang : LanguageView) (inst : InstanceView) (c : ConstraintView) → IsFileInstance lang inst → FitsAt lang (length inst.variables) c → 1 ≤ length c.scope → length c.scope ≤ 6 → length inst.constraints < 256 → IsFileInstance lang (with_constraint inst c)
 IsFileInstance-with_constraint lang inst c is fits some few room = record {

@@ -1,20 +1,23 @@
--- A text that the grammar accepts is spelled as its file: line by line, the lines so far are those of blocks that say the language so far.
-use Rattle.std.proofs.Common.{◌≡◌, ℕ, suc, ◌+◌, ◌-◌, ◌<◌, ◌≤◌, Bool, true, false, cond, nat_lt, ◌&&◌, List, [], ◌∷◌, ◌++◌, length, map, flat_map, drop, get_or, Some, Ok, All, Any, Contains, refl, sym, ap, ap₂, ◌∙◌, subst, arith, codes, append_assoc, append-nil}
+-- A text that the grammar accepts is spelled as its file: line by line, the lines so far are those of blocks that say the language so far, and behind them those of the instances so far.
+use Rattle.std.proofs.Common.{◌≡◌, ℕ, ◌+◌, ◌-◌, ◌<◌, ◌≤◌, Bool, true, false, cond, eqb, nat_lt, ◌&&◌, List, [], ◌∷◌, ◌++◌, length, map, flat_map, drop, get_or, Some, Result, Ok, All, Any, Contains, refl, sym, ap, ap₂, ◌∙◌, subst, arith, codes, append_assoc, append-nil}
 use Rattle.std.specs.List.{AllZip}
-use Rattle.std.proofs.lemmas.Bool.{ltb-true, and_parts}
-use Rattle.std.proofs.lemmas.List.{map_push}
+use Rattle.std.proofs.lemmas.Bool.{eqb-true, ltb-true, and_parts}
+use Rattle.std.proofs.lemmas.List.{map_push, nil_from_length}
 use Rattle.std.proofs.lemmas.List.Concat.{flat_map-append}
-use Rattle.std.proofs.lemmas.List.Elements.{All-nil, All-cons, All-head, All-tail, All-push, All-weaker, All-get_or, Contains-push, Contains-append_left}
+use Rattle.std.proofs.lemmas.List.Elements.{All-nil, All-push, All-weaker, All-get_or, Contains-push, Contains-append_left}
 use Rattle.pol_defs.specs.Tuples.{IsDomain, IsTuple}
-use Rattle.pol_defs.specs.Relations.{RelationView, IsRelationOver, LanguageView, IsLanguage, no_relation, last_of, with_row, with_row_at_last}
+use Rattle.pol_defs.specs.Relations.{RelationView, IsRelationOver, LanguageView, IsLanguage, no_relation, relation_of, last_of, with_row, with_row_at_last}
+use Rattle.pol_defs.specs.Instances.{ConstraintView, InstanceView, with_constraint}
 use Rattle.pol_defs.specs.Lines.{LineView, lines_of, significant_lines, token_at, number_of, is_name}
+use Rattle.pol_defs.specs.Refusals.{Word}
 use Rattle.pol_defs.specs.Refusals.Word.{BadLine}
-use Rattle.pol_defs.specs.Files.{Parsed}
-use Rattle.pol_defs.specs.Grammar.{unless, after_line, begins_with, header_line, domain_line, relation_line, tuple_line, entry_line, end_line, rest_of_file, file_from_domain, file_of, parse}
-use Rattle.pol_defs.specs.Spelling.{Write, Block, block_lines, Spells, IsWithinLimits, IsSpelled}
-use Rattle.pol_defs.proofs.RelationLemmas.{Named, AreLong, AreLong-tuples, All-with_row, Contains-with_row, Contains-with_row_old, relation_with_row, length-with_relation, length-with_last_row, IsLanguage-begun, IsRelation-begun, IsLanguage-with_relation, IsLanguage-with_last_row}
+use Rattle.pol_defs.specs.Files.{IsFileLanguage, IsFileInstance, FileView, IsFile, no_instance, last_instance, with_constraint_at_last, Parsed}
+use Rattle.pol_defs.specs.Grammar.{unless, after_line, begins_with, header_line, domain_line, relation_line, tuple_line, language_line, instance_line, constraint_line, in_language, entry_line, end_line, rest_of_file, begun_file, file_from_domain, file_of, parse}
+use Rattle.pol_defs.specs.Spelling.{Write, Block, block_lines, Spells, constraint_tokens, instance_lines, IsSpelled}
+use Rattle.pol_defs.proofs.RelationLemmas.{Named, AreLong, AreLong-tuples, All-with_row, Contains-with_row, Contains-with_row_old, relation_with_row, IsRelation-begun, IsRelationOver-relation_of}
 use Rattle.pol_defs.proofs.GrammarLemmas.{after_line-ok}
-use Rattle.pol_defs.proofs.AcceptedLines.{unless-ok, begins_with-first, begins_with-rest, WritesNumber, WritesRelation, WritesTuple, header_line-writes, domain_line-writes, relation_line-writes, tuple_line-writes, end_line-writes}
+use Rattle.pol_defs.proofs.FileLemmas.{last_named, last_place, IsFileLanguage-begun, IsFileLanguage-with_relation, IsFileLanguage-with_last_row, IsFileInstance-begun, IsFile-without_instances, IsFile-with_instance, IsFile-with_last_constraint}
+use Rattle.pol_defs.proofs.AcceptedLines.{unless-ok, begins_with-first, begins_with-rest, WritesNumber, WritesRelation, WritesTuple, WritesInstance, WritesConstraint, header_line-writes, domain_line-writes, relation_line-writes, tuple_line-writes, instance_line-writes, constraint_line-writes, in_language-ok, end_line-writes}
 
 -- ---- lists
 
@@ -89,26 +92,11 @@ Spells-with_line_at_last tokens t b [] e (f ∷ fs) spell fits write = absurd sp
 Spells-with_line_at_last tokens t b (c ∷ cs) e [] spell fits write = absurd spell.1
 Spells-with_line_at_last tokens t b (c ∷ cs) e (f ∷ fs) spell fits write = (spell.0, Spells-with_line_at_last tokens t c cs f fs spell.1 fits write)
 
-All-with_row_at_last : (P : Named → Type 0) (t : List ℕ) (e : Named) (rest : List Named) → All P (e ∷ rest) → (let last = get_or (e ∷ rest) (length rest) ([], no_relation) in P (last.0, relation_with_row last.1 t)) → All P (with_row_at_last t (e ∷ rest))
-All-with_row_at_last P t e [] all last = All-cons P (e.0, relation_with_row e.1 t) [] last (All-nil P)
-All-with_row_at_last P t e (f ∷ rest) all last = All-cons P e (with_row_at_last t (f ∷ rest)) (All-head P e (f ∷ rest) all) (All-with_row_at_last P t f rest (All-tail P e (f ∷ rest) all) last)
-
--- the relation that was added last, with its name
-abbrev last_named : List Named → Named
-last_named relations = get_or relations (length relations - 1) ([], no_relation)
-
-last_place : (n : ℕ) → suc n - 1 ≡ n
-last_place n = omega arith
-
 blocks-with_line : (tokens : List (List ℕ)) (t : List ℕ) (blocks : List Block) (relations : List Named) → AllZip Spells blocks relations → FitsRows t (last_named relations) → Write tokens t → AllZip Spells (with_line_at_last tokens blocks) (with_row_at_last t relations)
 blocks-with_line tokens t [] [] spell fits write = tt
 blocks-with_line tokens t [] (e ∷ es) spell fits write = absurd spell
 blocks-with_line tokens t (b ∷ bs) [] spell fits write = absurd spell
 blocks-with_line tokens t (b ∷ bs) (e ∷ es) spell fits write = Spells-with_line_at_last tokens t b bs e es spell (rw (last_place (length es)) at fits) write
-
-few-with_row : (t : List ℕ) (relations : List Named) → All (λ e. length e.1.rows ≤ 128) relations → length (with_row t (last_named relations).1.rows) ≤ 128 → All (λ e. length e.1.rows ≤ 128) (with_row_at_last t relations)
-few-with_row t [] all few = all
-few-with_row t (e ∷ es) all few = All-with_row_at_last (λ f. length f.1.rows ≤ 128) t e es all (rw (last_place (length es)) at few)
 
 block_lines-at_last : (tokens : List (List ℕ)) (blocks : List Block) (relations : List Named) → 0 < length relations → AllZip Spells blocks relations → flat_map block_lines (with_line_at_last tokens blocks) ≡ flat_map block_lines blocks ++ (codes "tuple" ∷ tokens) ∷ []
 block_lines-at_last tokens [] [] some spell = absurd (omega arith)
@@ -118,19 +106,19 @@ block_lines-at_last tokens (b ∷ bs) relations some spell = block_lines-with_li
 -- ---- the lines of a language
 
 -- the lines are those of blocks that say the relations, and the language is within the limits
-record SaidBy (d : ℕ) (lines : List (List (List ℕ))) (lang : LanguageView) : Type 0 where
+record LanguageSaidBy (d : ℕ) (lines : List (List (List ℕ))) (lang : LanguageView) : Type 0 where
   blocks : List Block
   lines_are : lines ≡ flat_map block_lines blocks
   relations_are : AllZip Spells blocks lang.relations
-  within : IsWithinLimits (record { language = lang })
+  within : IsFileLanguage lang
   domain_is : lang.domain ≡ d
 
-said-begun : (d : ℕ) → IsDomain d → SaidBy d [] (record { domain = d; relations = [] })
+said-begun : (d : ℕ) → IsDomain d → LanguageSaidBy d [] (record { domain = d; relations = [] })
 said-begun d domain = record {
   blocks = [];
   lines_are = refl;
   relations_are = tt;
-  within = record { is_language = IsLanguage-begun d domain; few_relations = omega arith; few_tuples = All-nil (λ e. length e.1.rows ≤ 128) };
+  within = IsFileLanguage-begun d domain;
   domain_is = refl;
 }
 
@@ -144,16 +132,12 @@ Spells-begun d arity name token named number = record {
   each_row = All-nil (λ row. Any (λ line. Write line row) []);
 }
 
-said-relation : (d : ℕ) (lines : List (List (List ℕ))) (lang : LanguageView) (tokens : List (List ℕ)) (next : LanguageView) → SaidBy d lines lang → token_at tokens 0 ≡ codes "relation" → WritesRelation lang tokens next → SaidBy d (lines ++ tokens ∷ []) next
-said-relation d lines lang tokens next said first writes = subst (SaidBy d (lines ++ tokens ∷ [])) (sym writes.next_is) (record {
+said-relation : (d : ℕ) (lines : List (List (List ℕ))) (lang : LanguageView) (tokens : List (List ℕ)) (next : LanguageView) → LanguageSaidBy d lines lang → token_at tokens 0 ≡ codes "relation" → WritesRelation lang tokens next → LanguageSaidBy d (lines ++ tokens ∷ []) next
+said-relation d lines lang tokens next said first writes = subst (LanguageSaidBy d (lines ++ tokens ∷ [])) (sym writes.next_is) (record {
   blocks = said.blocks ++ block ∷ [];
   lines_are = ap₂ (λ some line. some ++ line ∷ []) said.lines_are (writes.tokens_are ∙ ap (λ t. t ∷ writes.name ∷ writes.arity_token ∷ []) first) ∙ sym (block_lines-push said.blocks block refl);
   relations_are = AllZip-pushed Spells said.blocks lang.relations block (writes.name, begun) said.relations_are (Spells-begun lang.domain writes.arity writes.name writes.arity_token writes.is_name writes.arity_is);
-  within = record {
-    is_language = IsLanguage-with_relation lang writes.name begun is (record { is_relation = IsRelation-begun lang.domain writes.arity is.domain_is writes.some_places writes.few_places; same_domain = refl }) writes.is_new;
-    few_relations = omega (arith, writes.few_relations, length-with_relation lang writes.name begun);
-    few_tuples = All-push (λ e. length e.1.rows ≤ 128) lang.relations (writes.name, begun) said.within.few_tuples (omega arith);
-  };
+  within = IsFileLanguage-with_relation lang writes.name begun said.within (record { is_relation = IsRelation-begun lang.domain writes.arity is.domain_is writes.some_places writes.few_places; same_domain = refl }) writes.is_name writes.is_new writes.few_relations (omega arith) (omega (arith, said.within.few_triples)) writes.few_subsets;
   domain_is = said.domain_is;
 })
   where
@@ -166,16 +150,12 @@ said-relation d lines lang tokens next said first writes = subst (SaidBy d (line
     block : Block
     block = record { name = writes.name; arity = writes.arity_token; tuples = [] }
 
-said-tuple : (d : ℕ) (lines : List (List (List ℕ))) (lang : LanguageView) (tokens : List (List ℕ)) (next : LanguageView) → SaidBy d lines lang → 0 < length lang.relations → IsRelationOver lang.domain (last_of lang) → token_at tokens 0 ≡ codes "tuple" → WritesTuple lang tokens next → SaidBy d (lines ++ tokens ∷ []) next
-said-tuple d lines lang tokens next said some over first writes = subst (SaidBy d (lines ++ tokens ∷ [])) (sym writes.row.next_is) (record {
+said-tuple : (d : ℕ) (lines : List (List (List ℕ))) (lang : LanguageView) (tokens : List (List ℕ)) (next : LanguageView) → LanguageSaidBy d lines lang → 0 < length lang.relations → IsRelationOver lang.domain (last_of lang) → token_at tokens 0 ≡ codes "tuple" → WritesTuple lang tokens next → LanguageSaidBy d (lines ++ tokens ∷ []) next
+said-tuple d lines lang tokens next said some over first writes = subst (LanguageSaidBy d (lines ++ tokens ∷ [])) (sym writes.row.next_is) (record {
   blocks = with_line_at_last (drop 1 tokens) said.blocks;
   lines_are = ap₂ (λ all line. all ++ line ∷ []) said.lines_are (begins_with-rest (codes "tuple") tokens (omega arith) first) ∙ sym (block_lines-at_last (drop 1 tokens) said.blocks lang.relations some said.relations_are);
   relations_are = blocks-with_line (drop 1 tokens) writes.values said.blocks lang.relations said.relations_are fits writes.write;
-  within = record {
-    is_language = IsLanguage-with_last_row lang writes.values said.within.is_language (subst (λ k. IsTuple k (last_of lang).arity writes.values) (sym over.same_domain) writes.tuple);
-    few_relations = omega (arith, said.within.few_relations, length-with_last_row lang writes.values);
-    few_tuples = few-with_row writes.values lang.relations said.within.few_tuples writes.row.few;
-  };
+  within = IsFileLanguage-with_last_row lang writes.values said.within (subst (λ k. IsTuple k (last_of lang).arity writes.values) (sym over.same_domain) writes.tuple) writes.row.few writes.row.few_triples;
   domain_is = said.domain_is;
 })
   where
@@ -183,14 +163,14 @@ said-tuple d lines lang tokens next said some over first writes = subst (SaidBy 
     fits = record { long = writes.tuple.long; rows_long = AreLong-tuples (last_of lang).domain (last_of lang).arity (last_of lang).rows over.is_relation.tuples }
 
 -- an accepted line is one of the lines that say the language with what it adds
-said-entry : (d : ℕ) (lines : List (List (List ℕ))) (lang : LanguageView) (tokens : List (List ℕ)) (next : LanguageView) → SaidBy d lines lang → entry_line lang tokens ≡ Ok next → SaidBy d (lines ++ tokens ∷ []) next
-unfolding entry_line
-said-entry d lines lang tokens next said e = by_keyword (begins_with (codes "relation") tokens) (begins_with-first (codes "relation") tokens) e
+said-language_line : (d : ℕ) (lines : List (List (List ℕ))) (lang : LanguageView) (tokens : List (List ℕ)) (next : LanguageView) → LanguageSaidBy d lines lang → language_line lang tokens ≡ Ok next → LanguageSaidBy d (lines ++ tokens ∷ []) next
+unfolding language_line
+said-language_line d lines lang tokens next said e = by_keyword (begins_with (codes "relation") tokens) (begins_with-first (codes "relation") tokens) e
   where
     at_last : 0 < length lang.relations → length lang.relations - 1 < length lang.relations
     at_last some = omega arith
 
-    by_keyword : (t : Bool) → (t ≡ true → token_at tokens 0 ≡ codes "relation") → cond t (relation_line lang tokens) (unless (begins_with (codes "tuple") tokens && nat_lt 0 (length lang.relations)) BadLine (tuple_line lang tokens)) ≡ Ok next → SaidBy d (lines ++ tokens ∷ []) next
+    by_keyword : (t : Bool) → (t ≡ true → token_at tokens 0 ≡ codes "relation") → cond t (relation_line lang tokens) (unless (begins_with (codes "tuple") tokens && nat_lt 0 (length lang.relations)) BadLine (tuple_line lang tokens)) ≡ Ok next → LanguageSaidBy d (lines ++ tokens ∷ []) next
     by_keyword true first h = said-relation d lines lang tokens next said (first refl) (relation_line-writes lang tokens next h)
     by_keyword false first h =
         let allowed = unless-ok (begins_with (codes "tuple") tokens && nat_lt 0 (length lang.relations)) BadLine (tuple_line lang tokens) next h in
@@ -198,7 +178,116 @@ said-entry d lines lang tokens next said e = by_keyword (begins_with (codes "rel
         let some = ltb-true 0 (length lang.relations) parts.1 in
         let over = All-get_or (λ e. IsRelationOver lang.domain e.1) lang.relations (length lang.relations - 1) ([], no_relation) (at_last some) said.within.is_language.relations_are in
         let few = All-get_or (λ e. length e.1.rows ≤ 128) lang.relations (length lang.relations - 1) ([], no_relation) (at_last some) said.within.few_tuples in
-        said-tuple d lines lang tokens next said some over (begins_with-first (codes "tuple") tokens parts.0) (tuple_line-writes lang tokens next over.is_relation few allowed.went_on)
+        said-tuple d lines lang tokens next said some over (begins_with-first (codes "tuple") tokens parts.0) (tuple_line-writes lang tokens next over.is_relation said.within few allowed.went_on)
+
+-- ---- the lines of a file
+
+-- the lines are those that say the language, and behind them those of the instances
+record SaidBy (d : ℕ) (lines : List (List (List ℕ))) (file : FileView) : Type 0 where
+  first : List (List (List ℕ))
+  language : LanguageSaidBy d first file.language
+  lines_are : lines ≡ first ++ flat_map (instance_lines file.language) file.instances
+  is_file : IsFile file
+
+without_instances : (lang : LanguageView) (first : List (List (List ℕ))) (instances : List InstanceView) → length instances ≡ 0 → first ≡ first ++ flat_map (instance_lines lang) instances
+without_instances lang first instances none =
+    sym (ap (λ some. first ++ flat_map (instance_lines lang) some) (nil_from_length instances none) ∙ append-nil first)
+
+-- lines that say a language say the file that has no instances
+said-language : (d : ℕ) (lines : List (List (List ℕ))) (lang : LanguageView) (instances : List InstanceView) → LanguageSaidBy d lines lang → length instances ≡ 0 → SaidBy d lines (record { language = lang; instances = instances })
+said-language d lines lang instances said none = record {
+  first = lines;
+  language = said;
+  lines_are = without_instances lang lines instances none;
+  is_file = IsFile-without_instances lang instances said.within none;
+}
+
+-- a line of the language, before the first instance
+said-in_language : (d : ℕ) (lines : List (List (List ℕ))) (file : FileView) (tokens : List (List ℕ)) (lang : LanguageView) → SaidBy d lines file → length file.instances ≡ 0 → language_line file.language tokens ≡ Ok lang → SaidBy d (lines ++ tokens ∷ []) (record { language = lang; instances = file.instances })
+said-in_language d lines file tokens lang said none e =
+    let same : said.first ≡ lines = without_instances file.language said.first file.instances none ∙ sym said.lines_are in
+    said-language d (lines ++ tokens ∷ []) lang file.instances (subst (λ some. LanguageSaidBy d (some ++ tokens ∷ []) lang) same (said-language_line d said.first file.language tokens lang said.language e)) none
+
+-- a line behind the lines of the instances
+line_more : (lang : LanguageView) (first lines : List (List (List ℕ))) (tokens : List (List ℕ)) (old new : List InstanceView) → lines ≡ first ++ flat_map (instance_lines lang) old → flat_map (instance_lines lang) new ≡ flat_map (instance_lines lang) old ++ tokens ∷ [] → lines ++ tokens ∷ [] ≡ first ++ flat_map (instance_lines lang) new
+line_more lang first lines tokens old new before more =
+    ap (λ some. some ++ tokens ∷ []) before ∙ (append_assoc first (flat_map (instance_lines lang) old) (tokens ∷ []) ∙ ap (λ some. first ++ some) (sym more))
+
+instance_lines-push : (lang : LanguageView) (instances : List InstanceView) (name : List ℕ) (variables : List (List ℕ)) → flat_map (instance_lines lang) (instances ++ record { name = name; variables = variables; constraints = [] } ∷ []) ≡ flat_map (instance_lines lang) instances ++ (codes "instance" ∷ name ∷ variables) ∷ []
+instance_lines-push lang instances name variables = flat_map-append (instance_lines lang) instances (record { name = name; variables = variables; constraints = [] } ∷ [])
+
+said-instance : (d : ℕ) (lines : List (List (List ℕ))) (file : FileView) (tokens : List (List ℕ)) (next : FileView) → SaidBy d lines file → token_at tokens 0 ≡ codes "instance" → WritesInstance file tokens next → SaidBy d (lines ++ tokens ∷ []) next
+said-instance d lines file tokens next said first writes = subst (SaidBy d (lines ++ tokens ∷ [])) (sym writes.next_is) (record {
+  first = said.first;
+  language = said.language;
+  lines_are = line_more file.language said.first lines tokens file.instances (file.instances ++ begun ∷ []) said.lines_are (instance_lines-push file.language file.instances writes.name writes.variables ∙ ap (λ line. flat_map (instance_lines file.language) file.instances ++ line ∷ []) (sym tokens_are));
+  is_file = IsFile-with_instance file begun said.is_file is writes.is_new writes.few_instances;
+})
+  where
+    begun : InstanceView
+    begun = record { name = writes.name; variables = writes.variables; constraints = [] }
+
+    tokens_are : tokens ≡ codes "instance" ∷ writes.name ∷ writes.variables
+    tokens_are = writes.tokens_are ∙ ap (λ t. t ∷ writes.name ∷ writes.variables) first
+
+    is : IsFileInstance file.language begun
+    is = IsFileInstance-begun file.language writes.name writes.variables writes.name_is writes.names_are writes.distinct writes.some_variables writes.few_variables
+
+instance_lines-with_constraint : (lang : LanguageView) (inst : InstanceView) (c : ConstraintView) → instance_lines lang (with_constraint inst c) ≡ instance_lines lang inst ++ (codes "constraint" ∷ constraint_tokens lang inst c) ∷ []
+instance_lines-with_constraint lang inst c = ap (λ ls. (codes "instance" ∷ inst.name ∷ inst.variables) ∷ ls) (map_push (λ one. codes "constraint" ∷ constraint_tokens lang inst one) inst.constraints c)
+
+instance_lines-with_constraint_at_last : (lang : LanguageView) (c : ConstraintView) (inst : InstanceView) (rest : List InstanceView) → flat_map (instance_lines lang) (with_constraint_at_last c (inst ∷ rest)) ≡ flat_map (instance_lines lang) (inst ∷ rest) ++ (codes "constraint" ∷ constraint_tokens lang (get_or (inst ∷ rest) (length rest) no_instance) c) ∷ []
+instance_lines-with_constraint_at_last lang c inst [] =
+    append-nil (instance_lines lang (with_constraint inst c)) ∙ (instance_lines-with_constraint lang inst c ∙ ap (λ ls. ls ++ (codes "constraint" ∷ constraint_tokens lang inst c) ∷ []) (sym (append-nil (instance_lines lang inst))))
+instance_lines-with_constraint_at_last lang c inst (next ∷ rest) =
+    let line = codes "constraint" ∷ constraint_tokens lang (get_or (next ∷ rest) (length rest) no_instance) c in
+    ap (λ ls. instance_lines lang inst ++ ls) (instance_lines-with_constraint_at_last lang c next rest) ∙ sym (append_assoc (instance_lines lang inst) (flat_map (instance_lines lang) (next ∷ rest)) (line ∷ []))
+
+instance_lines-at_last : (lang : LanguageView) (c : ConstraintView) (instances : List InstanceView) → 0 < length instances → flat_map (instance_lines lang) (with_constraint_at_last c instances) ≡ flat_map (instance_lines lang) instances ++ (codes "constraint" ∷ constraint_tokens lang (get_or instances (length instances - 1) no_instance) c) ∷ []
+instance_lines-at_last lang c [] some = absurd (omega arith)
+instance_lines-at_last lang c (inst ∷ rest) some = rw (last_place (length rest)) (instance_lines-with_constraint_at_last lang c inst rest)
+
+said-constraint : (d : ℕ) (lines : List (List (List ℕ))) (file : FileView) (tokens : List (List ℕ)) (next : FileView) → SaidBy d lines file → 0 < length file.instances → token_at tokens 0 ≡ codes "constraint" → WritesConstraint file tokens next → SaidBy d (lines ++ tokens ∷ []) next
+said-constraint d lines file tokens next said some first writes = subst (SaidBy d (lines ++ tokens ∷ [])) (sym writes.next_is) (record {
+  first = said.first;
+  language = said.language;
+  lines_are = line_more file.language said.first lines tokens file.instances (with_constraint_at_last c file.instances) said.lines_are (instance_lines-at_last file.language c file.instances some ∙ ap (λ line. flat_map (instance_lines file.language) file.instances ++ line ∷ []) (sym tokens_are));
+  is_file = IsFile-with_last_constraint file c said.is_file writes.fits (omega (arith, writes.fits.long, over.is_relation.some_places)) (omega (arith, writes.fits.long, over.is_relation.few_places)) writes.few_constraints;
+})
+  where
+    c : ConstraintView
+    c = writes.constraint
+
+    tokens_are : tokens ≡ codes "constraint" ∷ constraint_tokens file.language (last_instance file) c
+    tokens_are = writes.tokens_are ∙ ap (λ t. t ∷ constraint_tokens file.language (last_instance file) c) first
+
+    over : IsRelationOver file.language.domain (relation_of file.language c.relation)
+    over = IsRelationOver-relation_of file.language c.relation said.is_file.language_is.is_language writes.fits.known
+
+-- an accepted line is one of the lines that say the file with what it adds
+said-entry : (d : ℕ) (lines : List (List (List ℕ))) (file : FileView) (tokens : List (List ℕ)) (next : FileView) → SaidBy d lines file → entry_line file tokens ≡ Ok next → SaidBy d (lines ++ tokens ∷ []) next
+unfolding entry_line
+said-entry d lines file tokens next said e = by_instance (begins_with (codes "instance") tokens) (begins_with-first (codes "instance") tokens) e
+  where
+    in_instance : Result FileView Word
+    in_instance = unless (nat_lt 0 (length file.instances)) BadLine (constraint_line file tokens)
+
+    before_instances : Result FileView Word
+    before_instances = unless (eqb (length file.instances) 0) BadLine (in_language file (language_line file.language tokens))
+
+    by_constraint : (t : Bool) → (t ≡ true → token_at tokens 0 ≡ codes "constraint") → cond t in_instance before_instances ≡ Ok next → SaidBy d (lines ++ tokens ∷ []) next
+    by_constraint true first h =
+        let some = unless-ok (nat_lt 0 (length file.instances)) BadLine (constraint_line file tokens) next h in
+        said-constraint d lines file tokens next said (ltb-true 0 (length file.instances) some.passed) (first refl) (constraint_line-writes file tokens next some.went_on)
+    by_constraint false first h =
+        let none = unless-ok (eqb (length file.instances) 0) BadLine (in_language file (language_line file.language tokens)) next h in
+        let language = in_language-ok file (language_line file.language tokens) next none.went_on in
+        let same : record { language = language.value; instances = file.instances } ≡ next = let e = language.went_on in cc in
+        subst (SaidBy d (lines ++ tokens ∷ [])) same (said-in_language d lines file tokens language.value said (eqb-true (length file.instances) 0 none.passed) language.read)
+
+    by_instance : (t : Bool) → (t ≡ true → token_at tokens 0 ≡ codes "instance") → cond t (instance_line file tokens) (cond (begins_with (codes "constraint") tokens) in_instance before_instances) ≡ Ok next → SaidBy d (lines ++ tokens ∷ []) next
+    by_instance true first h = said-instance d lines file tokens next said (first refl) (instance_line-writes file tokens next h)
+    by_instance false first h = by_constraint (begins_with (codes "constraint") tokens) (begins_with-first (codes "constraint") tokens) h
 
 -- the lines behind the earlier ones, up to the one behind which the file ends, say the rest of it
 record SaidToEnd (d : ℕ) (earlier : List (List (List ℕ))) (lines : List LineView) (found : Parsed) : Type 0 where
@@ -206,19 +295,21 @@ record SaidToEnd (d : ℕ) (earlier : List (List (List ℕ))) (lines : List Line
   last : LineView
   rest : List LineView
   lines_are : lines ≡ front ++ last ∷ rest
-  said : SaidBy d (earlier ++ map (λ l. l.tokens) front) found.file.language
+  said : SaidBy d (earlier ++ map (λ l. l.tokens) front) found.file
   last_is : last.tokens ≡ codes "end" ∷ []
   place_is : found.place ≡ last.after
+  line_is : found.line ≡ last.number + 1
 
-said-at_end : (d : ℕ) (earlier : List (List (List ℕ))) (lang : LanguageView) (l : LineView) (ls : List LineView) (line : ℕ) → SaidBy d earlier lang → l.tokens ≡ codes "end" ∷ [] → SaidToEnd d earlier (l ∷ ls) (record { file = record { language = lang }; place = l.after; line = line })
-said-at_end d earlier lang l ls line said ends = record {
+said-at_end : (d : ℕ) (earlier : List (List (List ℕ))) (file : FileView) (l : LineView) (ls : List LineView) → SaidBy d earlier file → l.tokens ≡ codes "end" ∷ [] → SaidToEnd d earlier (l ∷ ls) (record { file = file; place = l.after; line = l.number + 1 })
+said-at_end d earlier file l ls said ends = record {
   front = [];
   last = l;
   rest = ls;
   lines_are = refl;
-  said = subst (λ lines. SaidBy d lines lang) (sym (append-nil earlier)) said;
+  said = subst (λ lines. SaidBy d lines file) (sym (append-nil earlier)) said;
   last_is = ends;
   place_is = refl;
+  line_is = refl;
 }
 
 said-before : (d : ℕ) (earlier : List (List (List ℕ))) (l : LineView) (ls : List LineView) (found : Parsed) → SaidToEnd d (earlier ++ l.tokens ∷ []) ls found → SaidToEnd d earlier (l ∷ ls) found
@@ -227,23 +318,24 @@ said-before d earlier l ls found later = record {
   last = later.last;
   rest = later.rest;
   lines_are = ap (λ some. l ∷ some) later.lines_are;
-  said = subst (λ lines. SaidBy d lines found.file.language) (append_assoc earlier (l.tokens ∷ []) (map (λ line. line.tokens) later.front)) later.said;
+  said = subst (λ lines. SaidBy d lines found.file) (append_assoc earlier (l.tokens ∷ []) (map (λ line. line.tokens) later.front)) later.said;
   last_is = later.last_is;
   place_is = later.place_is;
+  line_is = later.line_is;
 }
 
-rest_of_file-said : (d : ℕ) (earlier : List (List (List ℕ))) (lang : LanguageView) (last : ℕ) (ls : List LineView) (found : Parsed) → SaidBy d earlier lang → rest_of_file lang last ls ≡ Ok found → SaidToEnd d earlier ls found
-rest_of_file-said d earlier lang last [] found said e = cc
-rest_of_file-said d earlier lang last (l ∷ ls) found said e = by_keyword (begins_with (codes "end") l.tokens) refl (λ next said_next h. rest_of_file-said d (earlier ++ l.tokens ∷ []) next last ls found said_next h) e
+rest_of_file-said : (d : ℕ) (earlier : List (List (List ℕ))) (file : FileView) (last : ℕ) (ls : List LineView) (found : Parsed) → SaidBy d earlier file → rest_of_file file last ls ≡ Ok found → SaidToEnd d earlier ls found
+rest_of_file-said d earlier file last [] found said e = cc
+rest_of_file-said d earlier file last (l ∷ ls) found said e = by_keyword (begins_with (codes "end") l.tokens) refl (λ next said_next h. rest_of_file-said d (earlier ++ l.tokens ∷ []) next last ls found said_next h) e
   where
-    by_keyword : (t : Bool) → begins_with (codes "end") l.tokens ≡ t → ((next : LanguageView) → SaidBy d (earlier ++ l.tokens ∷ []) next → rest_of_file next last ls ≡ Ok found → SaidToEnd d (earlier ++ l.tokens ∷ []) ls found) → cond t (after_line l (end_line l.tokens) (λ _. Ok (record { file = record { language = lang }; place = l.after; line = l.number + 1 }))) (after_line l (entry_line lang l.tokens) (λ next. rest_of_file next last ls)) ≡ Ok found → SaidToEnd d earlier (l ∷ ls) found
+    by_keyword : (t : Bool) → begins_with (codes "end") l.tokens ≡ t → ((next : FileView) → SaidBy d (earlier ++ l.tokens ∷ []) next → rest_of_file next last ls ≡ Ok found → SaidToEnd d (earlier ++ l.tokens ∷ []) ls found) → cond t (after_line l (end_line l.tokens) (λ _. Ok (record { file = file; place = l.after; line = l.number + 1 }))) (after_line l (entry_line file l.tokens) (λ next. rest_of_file next last ls)) ≡ Ok found → SaidToEnd d earlier (l ∷ ls) found
     by_keyword true begins later h =
-        let p = after_line-ok l (end_line l.tokens) (λ _. Ok (record { file = record { language = lang }; place = l.after; line = l.number + 1 })) found h in
-        let same : record { file = record { language = lang }; place = l.after; line = l.number + 1 } ≡ found = cc in
-        subst (SaidToEnd d earlier (l ∷ ls)) same (said-at_end d earlier lang l ls (l.number + 1) said (end_line-writes l.tokens p.value begins p.accepted))
+        let p = after_line-ok l (end_line l.tokens) (λ _. Ok (record { file = file; place = l.after; line = l.number + 1 })) found h in
+        let same : record { file = file; place = l.after; line = l.number + 1 } ≡ found = cc in
+        subst (SaidToEnd d earlier (l ∷ ls)) same (said-at_end d earlier file l ls said (end_line-writes l.tokens p.value begins p.accepted))
     by_keyword false begins later h =
-        let p = after_line-ok l (entry_line lang l.tokens) (λ next. rest_of_file next last ls) found h in
-        said-before d earlier l ls found (later p.value (said-entry d earlier lang l.tokens p.value said p.accepted) p.went_on)
+        let p = after_line-ok l (entry_line file l.tokens) (λ next. rest_of_file next last ls) found h in
+        said-before d earlier l ls found (later p.value (said-entry d earlier file l.tokens p.value said p.accepted) p.went_on)
 
 -- ---- files
 
@@ -251,19 +343,23 @@ file-spelled : (h k : LineView) (ls : List LineView) (d : ℕ) (found : Parsed) 
 file-spelled h k ls d found header domain to_end = record {
   version = header.number;
   domain = domain.number;
-  blocks = to_end.said.blocks;
+  blocks = to_end.said.language.blocks;
   front = h ∷ k ∷ to_end.front;
   last = to_end.last;
   rest = to_end.rest;
   version_is = header.number_is;
-  domain_is = domain.number_is ∙ ap (λ n. Some n) (sym to_end.said.domain_is);
-  relations_are = to_end.said.relations_are;
-  within = to_end.said.within;
+  domain_is = domain.number_is ∙ ap (λ n. Some n) (sym to_end.said.language.domain_is);
+  relations_are = to_end.said.language.relations_are;
+  is_file = to_end.said.is_file;
   lines_are = ap (λ some. h ∷ k ∷ some) to_end.lines_are;
-  front_is = ap₂ (λ line lines. line ∷ lines) header.tokens_are (ap₂ (λ line lines. line ∷ lines) domain.tokens_are to_end.said.lines_are);
+  front_is = ap₂ (λ line lines. line ∷ lines) header.tokens_are (ap₂ (λ line lines. line ∷ lines) domain.tokens_are lines_are);
   last_is = to_end.last_is;
   place_is = to_end.place_is;
+  line_is = to_end.line_is;
 }
+  where
+    lines_are : map (λ l. l.tokens) to_end.front ≡ flat_map block_lines to_end.said.language.blocks ++ flat_map (instance_lines found.file.language) found.file.instances
+    lines_are = to_end.said.lines_are ∙ ap (λ first. first ++ flat_map (instance_lines found.file.language) found.file.instances) to_end.said.language.lines_are
 
 -- a text that the grammar accepts is spelled as the file that it gives
 pub parse-spelled : (bytes : List ℕ) (found : Parsed) → parse bytes ≡ Ok found → IsSpelled (significant_lines 1 bytes) found
@@ -273,9 +369,9 @@ parse-spelled bytes found e = by_header (length (lines_of bytes) + 1) (significa
     by_domain : (last : ℕ) (h : LineView) (ls : List LineView) → WritesNumber (codes "polyanna") h.tokens 1 → file_from_domain last ls ≡ Ok found → IsSpelled (h ∷ ls) found
     by_domain last h [] header e = cc
     by_domain last h (k ∷ ls) header e =
-        let p = after_line-ok k (domain_line k.tokens) (λ d. rest_of_file (record { domain = d; relations = [] }) last ls) found e in
+        let p = after_line-ok k (domain_line k.tokens) (λ d. rest_of_file (begun_file d) last ls) found e in
         let domain = domain_line-writes k.tokens p.value p.accepted in
-        file-spelled h k ls p.value found header domain.line (rest_of_file-said p.value [] (record { domain = p.value; relations = [] }) last ls found (said-begun p.value domain.domain_is) p.went_on)
+        file-spelled h k ls p.value found header domain.line (rest_of_file-said p.value [] (begun_file p.value) last ls found (said-language p.value [] (begun_file p.value).language [] (said-begun p.value domain.domain_is) refl) p.went_on)
 
     by_header : (last : ℕ) (ls : List LineView) → file_of last ls ≡ Ok found → IsSpelled ls found
     by_header last [] e = cc
