@@ -3,20 +3,20 @@ use Rattle.std.proofs.Common.{◌≡◌, ◌≢◌, ℕ, suc, ◌-◌, ◌<◌, 
 use Rattle.std.specs.Bool.{Decides}
 use Rattle.std.proofs.lemmas.Bool.{eqb-true, leb-true, ltb-true, and_parts, not-true}
 use Rattle.std.proofs.lemmas.Bool.Decides.{not_from_Decides}
-use Rattle.std.proofs.lemmas.List.{length-map, get_or-map, get_or_default}
+use Rattle.std.proofs.lemmas.List.{get_or_default}
 use Rattle.std.proofs.lemmas.List.Elements.{All-nil, All-cons}
 use Rattle.std.proofs.lemmas.List.Quantifiers.{all_pairs_push}
 use Rattle.pol_defs.specs.Tuples.{IsDomain, IsTuple}
-use Rattle.pol_defs.specs.Relations.{RelationView, IsRelation, LanguageView, no_relation, relation_of, name_of, names_of, last_of, is_among, place_in, has_name, has_row, with_row, with_relation, with_row_at_last, with_last_row}
+use Rattle.pol_defs.specs.Relations.{RelationView, IsRelation, LanguageView, no_relation, relation_of, names_of, last_of, is_among, place_in, has_name, has_row, with_row, with_relation, with_row_at_last, with_last_row}
 use Rattle.pol_defs.specs.Instances.{ConstraintView, FitsAt}
 use Rattle.pol_defs.specs.Lines.{token_at, number_of, is_name}
 use Rattle.pol_defs.specs.Refusals.{Word}
 use Rattle.pol_defs.specs.Refusals.Word.{NoHeader, BadVersion, BadDomain, BadLine, BadNumber, BadName, RepeatedName, BadArity, ValueOutside, ShortTuple, LongTuple, TooManyRelations, TooManyTuples, TooManyInstances, TooManyVariables, TooManyConstraints, TripleLimit, SubsetLimit, UnknownRelation, UnknownVariable}
-use Rattle.pol_defs.specs.Files.{weight_of, subset_weight_of, most_weight, IsFileLanguage, FileView, last_instance, with_instance, with_last_constraint}
+use Rattle.pol_defs.specs.Files.{weight_of, subset_weight_of, most_weight, FileView, last_instance, with_instance, with_last_constraint}
 use Rattle.pol_defs.specs.Grammar.{unless, after_number, after_values, begins_with, header_line, domain_line, begun_relation, relation_line, values_of, with_tuple, tuple_line, instance_names, names_of_tokens, after_names, instance_line, scope_of, with_scope, constraint_line, in_language, end_line}
 use Rattle.pol_defs.specs.Spelling.{Write, constraint_tokens}
 use Rattle.pol_defs.proofs.RelationLemmas.{AllPairs-nil, AreLong, AreLong-tuples, is_same-decides, has_row-decides, has_name-decides, length-with_row_new, with_row-there}
-use Rattle.pol_defs.proofs.FileLemmas.{place_in-found}
+use Rattle.pol_defs.proofs.FileLemmas.{place_in-found, place_in-known, place_in-name_of}
 
 -- a test that was passed
 pub record PassedTest {A : Type 0} (test : Bool) (next : Result A Word) (found : A) : Type 0 where
@@ -195,9 +195,9 @@ relations-there t (e ∷ rest) same =
 with_last_row-there : (lang : LanguageView) (t : List ℕ) → with_row t (last_of lang).rows ≡ (last_of lang).rows → with_last_row lang t ≡ lang
 with_last_row-there lang t same = ap (λ relations. record { domain = lang.domain; relations = relations }) (relations-there t lang.relations same)
 
-pub with_tuple-writes : (lang : LanguageView) (t : List ℕ) (next : LanguageView) → IsRelation (last_of lang) → IsFileLanguage lang → length (last_of lang).rows ≤ 128 → length t ≡ (last_of lang).arity → with_tuple lang t ≡ Ok next → WritesRow lang t next
+pub with_tuple-writes : (lang : LanguageView) (t : List ℕ) (next : LanguageView) → IsRelation (last_of lang) → length (last_of lang).rows ≤ 128 → weight_of 3 lang.relations ≤ most_weight → length t ≡ (last_of lang).arity → with_tuple lang t ≡ Ok next → WritesRow lang t next
 unfolding with_tuple
-with_tuple-writes lang t next is within few long e = by_test (has_row (last_of lang).rows t) (has_row-decides (last_of lang).rows t) e
+with_tuple-writes lang t next is few triples long e = by_test (has_row (last_of lang).rows t) (has_row-decides (last_of lang).rows t) e
   where
     rows-long : AreLong (last_of lang).arity (last_of lang).rows
     rows-long = AreLong-tuples (last_of lang).domain (last_of lang).arity (last_of lang).rows is.tuples
@@ -210,13 +210,13 @@ with_tuple-writes lang t next is within few long e = by_test (has_row (last_of l
         let same = with_row-there (last_of lang).arity t (last_of lang).rows long rows-long is.ascending (decides.0 refl) in
         let there = with_last_row-there lang t same in
         let goes_on : lang ≡ next = cc in
-        record { few = rw same few; few_triples = subst (λ l. weight_of 3 l.relations ≤ most_weight) (sym there) within.few_triples; next_is = sym goes_on ∙ sym there }
+        record { few = rw same few; few_triples = subst (λ l. weight_of 3 l.relations ≤ most_weight) (sym there) triples; next_is = sym goes_on ∙ sym there }
     by_test false decides h =
         let room = unless-ok (ltb (length (last_of lang).rows) 128) TooManyTuples tested next h in
-        let triples = unless-ok (leb (weight_of 3 (with_last_row lang t).relations) most_weight) TripleLimit (Ok (with_last_row lang t)) next room.went_on in
+        let light = unless-ok (leb (weight_of 3 (with_last_row lang t).relations) most_weight) TripleLimit (Ok (with_last_row lang t)) next room.went_on in
         let below = ltb-true (length (last_of lang).rows) 128 room.passed in
         let longer = length-with_row_new (last_of lang).arity t (last_of lang).rows long rows-long (not_from_Decides false decides refl) in
-        record { few = omega arith; few_triples = leb-true (weight_of 3 (with_last_row lang t).relations) most_weight triples.passed; next_is = cc }
+        record { few = omega arith; few_triples = leb-true (weight_of 3 (with_last_row lang t).relations) most_weight light.passed; next_is = cc }
 
 -- a tuple of the last relation, each value by its token
 pub record WritesTuple (lang : LanguageView) (tokens : List (List ℕ)) (next : LanguageView) : Type 0 where
@@ -225,9 +225,9 @@ pub record WritesTuple (lang : LanguageView) (tokens : List (List ℕ)) (next : 
   pub tuple : IsTuple lang.domain (last_of lang).arity values
   pub row : WritesRow lang values next
 
-pub tuple_line-writes : (lang : LanguageView) (tokens : List (List ℕ)) (next : LanguageView) → IsRelation (last_of lang) → IsFileLanguage lang → length (last_of lang).rows ≤ 128 → tuple_line lang tokens ≡ Ok next → WritesTuple lang tokens next
+pub tuple_line-writes : (lang : LanguageView) (tokens : List (List ℕ)) (next : LanguageView) → IsRelation (last_of lang) → length (last_of lang).rows ≤ 128 → weight_of 3 lang.relations ≤ most_weight → tuple_line lang tokens ≡ Ok next → WritesTuple lang tokens next
 unfolding tuple_line
-tuple_line-writes lang tokens next is within few e =
+tuple_line-writes lang tokens next is few triples e =
     let enough = unless-ok (leb (last_of lang).arity (length tokens - 1)) ShortTuple _ next e in
     let no_more = unless-ok (leb (length tokens - 1) (last_of lang).arity) LongTuple _ next enough.went_on in
     let values = after_values-ok (values_of lang.domain (drop 1 tokens)) (with_tuple lang) next no_more.went_on in
@@ -239,7 +239,7 @@ tuple_line-writes lang tokens next is within few e =
       values = values.value;
       write = written.write;
       tuple = record { long = long; below = written.below };
-      row = with_tuple-writes lang values.value next is within few long values.went_on;
+      row = with_tuple-writes lang values.value next is few triples long values.went_on;
     }
 
 -- the names are those before and the tokens, all distinct
@@ -357,17 +357,13 @@ constraint_line-writes file tokens next e =
     let fitting = unless-ok (eqb (length tokens - 2) (relation_of lang relation.value).arity) BadArity _ next relation.went_on in
     let scope = after_values-ok (scope_of variables (drop 2 tokens)) (with_scope file relation.value) next fitting.went_on in
     let room = unless-ok (ltb (length (last_instance file).constraints) 256) TooManyConstraints _ next scope.went_on in
-    let place = place_in-found (names_of lang) (token_at tokens 1) relation.value relation.read in
     let names = scope_of-names variables (drop 2 tokens) scope.value scope.read in
     let arity = eqb-true (length tokens - 2) (relation_of lang relation.value).arity fitting.passed in
-    let known : relation.value < length lang.relations = omega (arith, place.inside, length-map lang.relations (λ named. named.0)) in
-    let named : name_of lang relation.value ≡ token_at tokens 1 =
-        sym (get_or-map (λ named. named.0) lang.relations relation.value ([], no_relation) (token_at tokens 1) known) ∙ place.found in
     record {
       constraint = record { relation = relation.value; scope = scope.value };
-      fits = record { known = known; long = omega (arith, names.long, length-drop 2 tokens); below = names.below };
+      fits = record { known = place_in-known lang (token_at tokens 1) relation.value relation.read; long = omega (arith, names.long, length-drop 2 tokens); below = names.below };
       few_constraints = ltb-true (length (last_instance file).constraints) 256 room.passed;
-      tokens_are = tokens_behind tokens (leb-true 2 (length tokens) enough.passed) ∙ ap₂ (λ name rest. token_at tokens 0 ∷ name ∷ rest) (sym named) (sym names.names);
+      tokens_are = tokens_behind tokens (leb-true 2 (length tokens) enough.passed) ∙ ap₂ (λ name rest. token_at tokens 0 ∷ name ∷ rest) (sym (place_in-name_of lang (token_at tokens 1) relation.value relation.read)) (sym names.names);
       next_is = cc;
     }
 

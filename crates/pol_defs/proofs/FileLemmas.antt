@@ -1,16 +1,16 @@
 -- Files: what building one from its parts keeps of the limits, the names and the instances.
-use Rattle.std.proofs.Common.{◌≡◌, ◌≢◌, ℕ, zero, suc, ◌+◌, ◌-◌, ◌^◌, ◌<◌, ◌≤◌, Bool, true, false, cond, List, [], ◌∷◌, ◌++◌, length, map, Option, Some, None, get_or, All, AllPairs, Contains, refl, sym, ap, ◌∙◌, subst, arith, option_map}
+use Rattle.std.proofs.Common.{◌≡◌, ◌≢◌, ℕ, zero, suc, ◌+◌, ◌-◌, ◌^◌, ◌<◌, ◌≤◌, Bool, true, false, cond, List, [], ◌∷◌, ◌++◌, length, Option, Some, None, get_or, All, AllPairs, Contains, refl, sym, ap, ◌∙◌, subst, arith, option_map}
 use Rattle.std.specs.Bool.{Decides}
 use Rattle.std.proofs.lemmas.List.{get_or-map, length-map, length_push}
 use Rattle.std.proofs.lemmas.List.Elements.{All-nil, All-cons, All-head, All-tail, All-push, All-get_or}
 use Rattle.std.proofs.lemmas.List.Quantifiers.{all_pairs_push}
 use Rattle.pol_defs.specs.Tuples.{IsDomain, IsTuple}
-use Rattle.pol_defs.specs.Relations.{RelationView, IsRelationOver, LanguageView, IsLanguage, no_relation, last_of, names_of, is_same, place_in, with_row, with_relation, with_row_at_last, with_last_row}
-use Rattle.pol_defs.specs.Instances.{ConstraintView, InstanceView, IsScope, IsInstance, FitsAt, with_constraint}
+use Rattle.pol_defs.specs.Relations.{RelationView, IsRelationOver, LanguageView, no_relation, last_of, name_of, names_of, is_same, place_in, with_row, with_relation, with_row_at_last, with_last_row}
+use Rattle.pol_defs.specs.Instances.{ConstraintView, InstanceView, IsScope, FitsAt, with_constraint}
 use Rattle.pol_defs.specs.Lines.{is_name}
 use Rattle.pol_defs.specs.Files.{weight_of, subset_weight_of, most_weight, IsFileLanguage, IsFileInstance, FileView, IsFile, no_instance, last_instance, with_instance, with_constraint_at_last, with_last_constraint}
 use Rattle.pol_defs.specs.Grammar.{instance_names, begun_file}
-use Rattle.pol_defs.proofs.RelationLemmas.{Named, IsPlaceOf, AllPairs-nil, is_same-decides, relation_with_row, length-with_relation, length-with_last_row, IsLanguage-begun, IsLanguage-with_relation, IsLanguage-with_last_row}
+use Rattle.pol_defs.proofs.RelationLemmas.{Named, IsPlaceOf, is_same-decides, relation_with_row, length-with_relation, length-with_last_row, IsLanguage-begun, IsLanguage-with_relation, IsLanguage-with_last_row}
 
 -- ---- places
 
@@ -32,6 +32,17 @@ place_in-found (ys ∷ lists) xs i e = by_test (is_same ys xs) (is_same-decides 
         let first : 0 ≡ i = cc in
         subst (IsPlaceOf xs (ys ∷ lists)) first (record { inside = omega arith; found = decides.0 refl })
     by_test false decides later h = place_behind ys xs lists (place_in lists xs) i later h
+
+-- a name that was found is that of a relation
+pub place_in-known : (lang : LanguageView) (name : List ℕ) (r : ℕ) → place_in (names_of lang) name ≡ Some r → r < length lang.relations
+place_in-known lang name r e =
+    let place = place_in-found (names_of lang) name r e in
+    omega (arith, place.inside, length-map lang.relations (λ named. named.0))
+
+pub place_in-name_of : (lang : LanguageView) (name : List ℕ) (r : ℕ) → place_in (names_of lang) name ≡ Some r → name_of lang r ≡ name
+place_in-name_of lang name r e =
+    let place = place_in-found (names_of lang) name r e in
+    sym (get_or-map (λ named. named.0) lang.relations r ([], no_relation) name (place_in-known lang name r e)) ∙ place.found
 
 -- ---- the sums
 
@@ -166,14 +177,6 @@ name-with_constraint_at_last c (inst ∷ []) zero d = refl
 name-with_constraint_at_last c (inst ∷ []) (suc k) d = refl
 name-with_constraint_at_last c (inst ∷ next ∷ rest) zero d = refl
 name-with_constraint_at_last c (inst ∷ next ∷ rest) (suc k) d = name-with_constraint_at_last c (next ∷ rest) k d
-
-pub instance_names-with_last_constraint : (file : FileView) (c : ConstraintView) → instance_names (with_last_constraint file c) ≡ instance_names file
-instance_names-with_last_constraint file c = same_names file.instances
-  where
-    same_names : (instances : List InstanceView) → map (λ inst. inst.name) (with_constraint_at_last c instances) ≡ map (λ inst. inst.name) instances
-    same_names [] = refl
-    same_names (inst ∷ []) = refl
-    same_names (inst ∷ next ∷ rest) = ap (λ names. inst.name ∷ names) (same_names (next ∷ rest))
 
 All-with_constraint_at_last : (P : InstanceView → Type 0) (c : ConstraintView) (inst : InstanceView) (rest : List InstanceView) → All P (inst ∷ rest) → (P (get_or (inst ∷ rest) (length rest) no_instance) → P (with_constraint (get_or (inst ∷ rest) (length rest) no_instance) c)) → All P (with_constraint_at_last c (inst ∷ rest))
 All-with_constraint_at_last P c inst [] all more = All-cons P (with_constraint inst c) [] (more (All-head P inst [] all)) (All-nil P)

@@ -1,5 +1,5 @@
 -- A text that the grammar accepts is spelled as its file: line by line, the lines so far are those of blocks that say the language so far, and behind them those of the instances so far.
-use Rattle.std.proofs.Common.{◌≡◌, ℕ, ◌+◌, ◌-◌, ◌<◌, ◌≤◌, Bool, true, false, cond, eqb, nat_lt, ◌&&◌, List, [], ◌∷◌, ◌++◌, length, map, flat_map, drop, get_or, Some, Result, Ok, All, Any, Contains, refl, sym, ap, ap₂, ◌∙◌, subst, arith, codes, append_assoc, append-nil}
+use Rattle.std.proofs.Common.{◌≡◌, ℕ, ◌+◌, ◌-◌, ◌<◌, ◌≤◌, Bool, true, false, cond, eqb, nat_lt, ◌&&◌, List, [], ◌∷◌, ◌++◌, length, map, flat_map, drop, get_or, Some, Result, Ok, Any, Contains, refl, sym, ap, ap₂, ◌∙◌, subst, arith, codes, append_assoc, append-nil}
 use Rattle.std.specs.List.{AllZip}
 use Rattle.std.proofs.lemmas.Bool.{eqb-true, ltb-true, and_parts}
 use Rattle.std.proofs.lemmas.List.{map_push, nil_from_length}
@@ -178,7 +178,7 @@ said-language_line d lines lang tokens next said e = by_keyword (begins_with (co
         let some = ltb-true 0 (length lang.relations) parts.1 in
         let over = All-get_or (λ e. IsRelationOver lang.domain e.1) lang.relations (length lang.relations - 1) ([], no_relation) (at_last some) said.within.is_language.relations_are in
         let few = All-get_or (λ e. length e.1.rows ≤ 128) lang.relations (length lang.relations - 1) ([], no_relation) (at_last some) said.within.few_tuples in
-        said-tuple d lines lang tokens next said some over (begins_with-first (codes "tuple") tokens parts.0) (tuple_line-writes lang tokens next over.is_relation said.within few allowed.went_on)
+        said-tuple d lines lang tokens next said some over (begins_with-first (codes "tuple") tokens parts.0) (tuple_line-writes lang tokens next over.is_relation few said.within.few_triples allowed.went_on)
 
 -- ---- the lines of a file
 
