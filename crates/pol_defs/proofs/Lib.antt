@@ -10,4 +10,6 @@ pub mod SpellingLemmas
 pub mod ReportLemmas
 pub mod LogExamples
 pub mod RefusedTexts
+pub mod LogLemmas
+pub mod LogFaults
 pub mod Examples

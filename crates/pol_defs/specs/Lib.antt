@@ -3,6 +3,7 @@ pub mod Relations
 pub mod Operations
 pub mod Instances
 pub mod Nogoods
+pub mod ValidLogs
 pub mod Least
 pub mod Classes
 pub mod Texts

@@ -1,0 +1,52 @@
+-- Valid steps and logs, in the field's words, and how many nogoods there are.
+use Rattle.std.specs.Prelude.{◌≡◌, ◌≢◌, ℕ, zero, suc, ◌+◌, ◌-◌, ◌*◌, ◌<◌, ◌≤◌, List, [], ◌++◌, length, take, slice_index, slice_index_or, All, AllPairs, Contains}
+use Rattle.pol_defs.specs.Relations.{LanguageView}
+use Rattle.pol_defs.specs.Instances.{InstanceView}
+use Rattle.pol_defs.specs.Nogoods.{Pair, Ground, StepView, cases_of, nogood_at}
+
+-- each pair of the first list is in the second
+abbrev pub PairsWithin : List Pair → List Pair → Type 0
+PairsWithin pairs others = All (Contains others) pairs
+
+-- a pair of one of n variables and one of d values
+pub record IsPair (n d : ℕ) (p : Pair) : Type 0 where
+  pub variable_known : p.variable < n
+  pub value_known : p.value < d
+
+-- pairs of n variables and d values, whose variables ascend strictly
+pub record IsNogood (n d : ℕ) (nogood : List Pair) : Type 0 where
+  pub pairs : All (IsPair n d) nogood
+  pub ascending : AllPairs (λ p q. p.variable < q.variable) nogood
+
+-- a step can rest there: the constraint exists; the variable exists, and the nogood does not name it
+abbrev pub CanRestOn : InstanceView → List Pair → Ground → Type 0
+CanRestOn inst nogood (Ground.ByConstraint c) = c < length inst.constraints
+CanRestOn inst nogood (Ground.ByVariable v) = (v < length inst.variables) × All (λ p. p.variable ≢ v) nogood
+
+-- each reference is to an earlier step, whose nogood is contained in this one joined with the reading of its case, and each case has one
+pub record HasReferences (earlier : List StepView) (nogood : List Pair) (cases : List (List Pair)) (references : List ℕ) : Type 0 where
+  pub as_many : length references ≡ length cases
+  pub to_earlier : All (λ r. r < length earlier) references
+  pub contained : (i : ℕ) → i < length references → PairsWithin (nogood_at earlier (slice_index references i)) (nogood ++ slice_index_or cases i [])
+
+-- no assignment that meets the constraints and holds none of the earlier nogoods holds that of the step, by a look at its cases
+pub record IsValidStep (lang : LanguageView) (inst : InstanceView) (earlier : List StepView) (s : StepView) : Type 0 where
+  pub rests : CanRestOn inst s.nogood s.ground
+  pub is_nogood : IsNogood (length inst.variables) lang.domain s.nogood
+  pub referred : HasReferences earlier s.nogood (cases_of lang inst s.ground s.nogood) s.references
+
+-- each step is valid behind those before it
+abbrev pub AreValid : LanguageView → InstanceView → List StepView → Type 0
+AreValid lang inst log = (i : ℕ) (d : StepView) → i < length log → IsValidStep lang inst (take i log) (slice_index_or log i d)
+
+-- valid steps, the last of which refutes every assignment
+pub record IsValidLog (lang : LanguageView) (inst : InstanceView) (log : List StepView) : Type 0 where
+  pub steps : AreValid lang inst log
+  pub some_steps : 1 ≤ length log
+  pub last_is_empty : nogood_at log (length log - 1) ≡ []
+
+-- the number of nogoods of at most so many pairs over n variables and d values: the first variable is not named, or has one of d values
+abbrev pub nogood_count : (d n most : ℕ) → ℕ
+nogood_count d zero most = 1
+nogood_count d (suc n) zero = 1
+nogood_count d (suc n) (suc most) = nogood_count d n (suc most) + d * nogood_count d n most
