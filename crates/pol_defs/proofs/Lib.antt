@@ -11,5 +11,7 @@ pub mod ReportLemmas
 pub mod LogExamples
 pub mod RefusedTexts
 pub mod LogLemmas
+pub mod MemberLemmas
 pub mod LogFaults
+pub mod LogCases
 pub mod Examples

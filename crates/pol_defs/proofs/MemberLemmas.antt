@@ -1,0 +1,55 @@
+-- Members of mapped and filtered lists, and lists without repeats.
+use Rattle.std.proofs.Common.{◌≡◌, ◌≢◌, ℕ, zero, suc, ◌<◌, ◌≤◌, ◌⊎◌, inl, inr, Bool, true, false, List, [], ◌∷◌, length, map, filter, get_or, All, AllPairs, Contains, refl, sym, ap, ◌∙◌, subst, arith}
+use Rattle.std.proofs.lemmas.Bool.{cases_Bool, cond-true, cond-false, true≢false}
+use Rattle.std.proofs.lemmas.List.{length-map, get_or-map}
+use Rattle.std.proofs.lemmas.List.Elements.{All-head, All-tail}
+use Rattle.pol_defs.proofs.RelationLemmas.{Contains-here, Contains-there, Contains-cons_cases, Contains-nil, AllPairs-head, AllPairs-tail}
+
+pub in_map : {X Y : Type 0} (f : X → Y) (xs : List X) (x : X) → Contains xs x → Contains (map f xs) (f x)
+in_map f xs x inside =
+    (inside.0, subst (λ n. inside.0 < n) (sym (length-map xs f)) inside.1, get_or-map f xs inside.0 x (f x) inside.1 ∙ ap f inside.2)
+
+pub in_filter : {X : Type 0} (test : X → Bool) (xs : List X) (x : X) → Contains xs x → test x ≡ true → Contains (filter test xs) x
+in_filter test [] x inside passes = absurd (Contains-nil x inside)
+in_filter {X = X} test (y ∷ xs) x inside passes = by (cases_Bool (test y)) (Contains-cons_cases y x xs inside) (λ behind. in_filter test xs x behind passes)
+  where
+    by : (test y ≡ true) ⊎ (test y ≡ false) → (y ≡ x) ⊎ Contains xs x → (Contains xs x → Contains (filter test xs) x) → Contains (filter test (y ∷ xs)) x
+    by (inl kept) (inl same) behind = subst (λ (some : List X). Contains some x) (sym (cond-true (test y) (y ∷ filter test xs) (filter test xs) kept)) (subst (λ (z : X). Contains (y ∷ filter test xs) z) same (Contains-here y (filter test xs)))
+    by (inl kept) (inr there) behind = subst (λ (some : List X). Contains some x) (sym (cond-true (test y) (y ∷ filter test xs) (filter test xs) kept)) (Contains-there y x (filter test xs) (behind there))
+    by (inr left) (inl same) behind = absurd (true≢false (sym passes ∙ (sym (ap test same) ∙ left)))
+    by (inr left) (inr there) behind = subst (λ (some : List X). Contains some x) (sym (cond-false (test y) (y ∷ filter test xs) (filter test xs) left)) (behind there)
+
+-- a list without the first place of a member
+abbrev without : {X : Type 0} → List X → ℕ → List X
+without [] k = []
+without (x ∷ xs) zero = xs
+without (x ∷ xs) (suc k) = x ∷ without xs k
+
+length-without : {X : Type 0} (xs : List X) (k : ℕ) → k < length xs → suc (length (without xs k)) ≡ length xs
+length-without [] k inside = absurd (omega arith)
+length-without (x ∷ xs) zero inside = refl
+length-without (x ∷ xs) (suc k) inside = ap suc (length-without xs k (omega arith))
+
+-- another member stays
+still_in : {X : Type 0} (xs : List X) (k : ℕ) (x y : X) → k < length xs → get_or xs k x ≡ x → x ≢ y → Contains xs y → Contains (without xs k) y
+still_in [] k x y inside found apart member = member
+still_in (z ∷ xs) zero x y inside found apart member = by (Contains-cons_cases z y xs member)
+  where
+    by : (z ≡ y) ⊎ Contains xs y → Contains xs y
+    by (inl same) = absurd (apart (sym found ∙ same))
+    by (inr there) = there
+still_in (z ∷ xs) (suc k) x y inside found apart member = by (Contains-cons_cases z y xs member) (still_in xs k x y (omega arith) found apart)
+  where
+    by : (z ≡ y) ⊎ Contains xs y → (Contains xs y → Contains (without xs k) y) → Contains (z ∷ without xs k) y
+    by (inl same) behind = subst (λ other. Contains (z ∷ without xs k) other) same (Contains-here z (without xs k))
+    by (inr there) behind = Contains-there z y (without xs k) (behind there)
+
+-- a list without repeats is no longer than one that has all its members
+pub no_longer : {X : Type 0} (xs ys : List X) → AllPairs (λ x y. x ≢ y) xs → All (Contains ys) xs → length xs ≤ length ys
+no_longer [] ys apart inside = omega arith
+no_longer {X = X} (x ∷ xs) ys apart inside =
+    let member : Contains ys x = All-head (Contains ys) x xs inside in
+    let others : All (Contains ys) xs = All-tail (Contains ys) x xs inside in
+    let differ : All (λ y. x ≢ y) xs = AllPairs-head (λ (a b : X). a ≢ b) x xs apart in
+    let rest = no_longer xs (without ys member.0) (AllPairs-tail (λ (a b : X). a ≢ b) x xs apart) (λ k d within. still_in ys member.0 x (get_or xs k d) member.1 member.2 (differ k d within) (others k d within)) in
+    omega (arith, length-without ys member.0 member.1)
