@@ -14,4 +14,5 @@ pub mod LogLemmas
 pub mod MemberLemmas
 pub mod LogFaults
 pub mod LogCases
+pub mod LogSound
 pub mod Examples
