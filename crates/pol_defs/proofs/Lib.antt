@@ -15,4 +15,5 @@ pub mod MemberLemmas
 pub mod LogFaults
 pub mod LogCases
 pub mod LogSound
+pub mod LogMaking
 pub mod Examples

@@ -1,8 +1,9 @@
 -- Valid steps and logs, in the field's words, and how many nogoods there are.
-use Rattle.std.specs.Prelude.{◌≡◌, ◌≢◌, ℕ, zero, suc, ◌+◌, ◌-◌, ◌*◌, ◌<◌, ◌≤◌, List, [], ◌++◌, length, take, slice_index, slice_index_or, All, AllPairs, Contains}
+use Rattle.std.specs.Prelude.{◌≡◌, ◌≢◌, ℕ, zero, suc, ◌+◌, ◌-◌, ◌*◌, ◌<◌, ◌≤◌, List, [], ◌++◌, length, take, map, filter, slice_index, slice_index_or, All, AllPairs, Contains}
+use Rattle.std.specs.List.{range_with_len}
 use Rattle.pol_defs.specs.Relations.{LanguageView}
 use Rattle.pol_defs.specs.Instances.{InstanceView}
-use Rattle.pol_defs.specs.Nogoods.{Pair, Ground, StepView, cases_of, nogood_at}
+use Rattle.pol_defs.specs.Nogoods.{Pair, Ground, StepView, reading, is_case, value_case, cases_of, nogood_at}
 
 -- each pair of the first list is in the second
 abbrev pub PairsWithin : List Pair → List Pair → Type 0
@@ -22,6 +23,14 @@ pub record IsNogood (n d : ℕ) (nogood : List Pair) : Type 0 where
 abbrev pub CanRestOn : InstanceView → List Pair → Ground → Type 0
 CanRestOn inst nogood (Ground.ByConstraint c) = c < length inst.constraints
 CanRestOn inst nogood (Ground.ByVariable v) = (v < length inst.variables) × All (λ p. p.variable ≢ v) nogood
+
+-- the readings of the rows that are cases, in order
+abbrev pub row_cases : List ℕ → List Pair → List (List ℕ) → List (List Pair)
+row_cases scope nogood rows = map (reading scope) (filter (is_case scope nogood) rows)
+
+-- the variable with each of the first values
+abbrev pub value_cases : ℕ → ℕ → List (List Pair)
+value_cases v count = map (value_case v) (range_with_len 0 count)
 
 -- each reference is to an earlier step, whose nogood is contained in this one joined with the reading of its case, and each case has one
 pub record HasReferences (earlier : List StepView) (nogood : List Pair) (cases : List (List Pair)) (references : List ℕ) : Type 0 where

@@ -1,0 +1,179 @@
+-- What a maker of logs needs: valid steps from their parts, references one by one, and a log from its steps.
+use Rattle.std.proofs.Common.{◌≡◌, ◌≢◌, ℕ, ◌+◌, ◌-◌, ◌<◌, ◌≤◌, ◌⊎◌, inl, inr, Bool, true, false, cond, List, [], ◌∷◌, ◌++◌, length, map, filter, get_or, take, None, All, refl, sym, ap, ◌∙◌, subst, arith, append-nil}
+use Rattle.std.proofs.lemmas.Bool.{cases_eq, cond-true, cond-false}
+use Rattle.std.proofs.lemmas.List.{length_push, get_or_push, get_or_append_left, take-append-le, take_at, take_all, map_push}
+use Rattle.std.proofs.lemmas.List.Elements.{All-nil, All-cons, All-push, All-head, All-tail, filter_more}
+use Rattle.std.proofs.lemmas.List.FromFn.{length-map-range_with_len, get_or-map-range_with_len, map-range_with_len_more}
+use Rattle.std.proofs.lemmas.List.Kept.{AllPairs-cons}
+use Rattle.std.proofs.lemmas.List.Quantifiers.{all_pairs_push}
+use Rattle.pol_defs.specs.Relations.{LanguageView, rows_of}
+use Rattle.pol_defs.specs.Instances.{InstanceView, constraint_of}
+use Rattle.pol_defs.specs.Nogoods.{Pair, Ground, StepView, reading, is_case, value_case, nogood_at, log_fault, FitsMost}
+use Rattle.pol_defs.specs.ValidLogs.{PairsWithin, IsPair, IsNogood, row_cases, value_cases, HasReferences, IsValidStep, AreValid}
+use Rattle.pol_defs.proofs.RelationLemmas.{AllPairs-nil}
+use Rattle.pol_defs.proofs.LogFaults.{fault_from_valid}
+
+-- steps
+
+abbrev pub constraint_step_of : ℕ → List Pair → List ℕ → StepView
+constraint_step_of c nogood references = record { ground = Ground.ByConstraint c; nogood = nogood; references = references }
+
+abbrev pub variable_step_of : ℕ → List Pair → List ℕ → StepView
+variable_step_of v nogood references = record { ground = Ground.ByVariable v; nogood = nogood; references = references }
+
+-- the rows that are cases of a step by the constraint
+abbrev pub cases_at : LanguageView → InstanceView → ℕ → List Pair → List (List Pair)
+cases_at lang inst c nogood = row_cases (constraint_of inst c).scope nogood (rows_of lang (constraint_of inst c).relation)
+
+-- by a constraint, with one reference for each case
+pub constraint_step : (lang : LanguageView) (inst : InstanceView) (earlier : List StepView) (c : ℕ) (nogood : List Pair) (references : List ℕ) → c < length inst.constraints → IsNogood (length inst.variables) lang.domain nogood → HasReferences earlier nogood (cases_at lang inst c nogood) references → IsValidStep lang inst earlier (constraint_step_of c nogood references)
+constraint_step lang inst earlier c nogood references known is referred = record { rests = known; is_nogood = is; referred = referred }
+
+-- by a variable, with one reference for each value
+pub variable_step : (lang : LanguageView) (inst : InstanceView) (earlier : List StepView) (v : ℕ) (nogood : List Pair) (references : List ℕ) → v < length inst.variables → All (λ p. p.variable ≢ v) nogood → IsNogood (length inst.variables) lang.domain nogood → HasReferences earlier nogood (value_cases v lang.domain) references → IsValidStep lang inst earlier (variable_step_of v nogood references)
+variable_step lang inst earlier v nogood references known apart is referred = record { rests = (known, apart); is_nogood = is; referred = referred }
+
+-- the references of the values, place by place
+pub values_referred : (earlier : List StepView) (nogood : List Pair) (v d : ℕ) (references : List ℕ) → length references ≡ d → All (λ r. r < length earlier) references → ((a : ℕ) → a < d → PairsWithin (nogood_at earlier (get_or references a 0)) (nogood ++ value_case v a)) → HasReferences earlier nogood (value_cases v d) references
+values_referred earlier nogood v d references long known within = record {
+  as_many = long ∙ sym (length-map-range_with_len (value_case v) 0 d);
+  to_earlier = known;
+  contained = λ i inside.
+      let below : i < d = omega arith in
+      subst (λ (one : List Pair). PairsWithin (nogood_at earlier (get_or references i 0)) (nogood ++ one)) (sym (get_or-map-range_with_len (value_case v) 0 d i i [] below (omega arith))) (within i below);
+}
+
+filter_none : {X : Type 0} (test : X → Bool) (xs : List X) → All (λ x. test x ≡ false) xs → filter test xs ≡ []
+filter_none test [] fails = refl
+filter_none test (x ∷ xs) fails =
+    cond-false (test x) (x ∷ filter test xs) (filter test xs) (All-head (λ x. test x ≡ false) x xs fails) ∙ filter_none test xs (All-tail (λ x. test x ≡ false) x xs fails)
+
+pub no_row_cases : (scope : List ℕ) (nogood : List Pair) (rows : List (List ℕ)) → All (λ row. is_case scope nogood row ≡ false) rows → row_cases scope nogood rows ≡ []
+no_row_cases scope nogood rows excluded = ap (map (reading scope)) (filter_none (is_case scope nogood) rows excluded)
+
+pub referred_none : (earlier : List StepView) (nogood : List Pair) → HasReferences earlier nogood [] []
+referred_none earlier nogood = record { as_many = refl; to_earlier = All-nil (λ r. r < length earlier); contained = λ i inside. absurd (omega arith) }
+
+-- by a constraint all of whose rows are excluded
+pub breaking_step : (lang : LanguageView) (inst : InstanceView) (earlier : List StepView) (c : ℕ) (nogood : List Pair) → c < length inst.constraints → IsNogood (length inst.variables) lang.domain nogood → All (λ row. is_case (constraint_of inst c).scope nogood row ≡ false) (rows_of lang (constraint_of inst c).relation) → IsValidStep lang inst earlier (constraint_step_of c nogood [])
+breaking_step lang inst earlier c nogood known is excluded =
+    let none = no_row_cases (constraint_of inst c).scope nogood (rows_of lang (constraint_of inst c).relation) excluded in
+    constraint_step lang inst earlier c nogood [] known is (subst (λ (cases : List (List Pair)). HasReferences earlier nogood cases []) (sym none) (referred_none earlier nogood))
+
+-- references one by one, as a loop over rows or values finds them
+
+pub referred_push : (earlier : List StepView) (nogood : List Pair) (cases : List (List Pair)) (one : List Pair) (references : List ℕ) (r : ℕ) → HasReferences earlier nogood cases references → r < length earlier → PairsWithin (nogood_at earlier r) (nogood ++ one) → HasReferences earlier nogood (cases ++ one ∷ []) (references ++ r ∷ [])
+referred_push earlier nogood cases one references r referred known within = record {
+  as_many = length_push references r ∙ (ap (λ n. n + 1) referred.as_many ∙ sym (length_push cases one));
+  to_earlier = All-push (λ r. r < length earlier) references r referred.to_earlier known;
+  contained = λ i inside. by i (omega (arith, length_push references r)) (cases_eq i (length references));
+}
+  where
+    by : (i : ℕ) → i < length references + 1 → (i ≡ length references) ⊎ (i ≡ length references → ⊥) → PairsWithin (nogood_at earlier (get_or (references ++ r ∷ []) i 0)) (nogood ++ get_or (cases ++ one ∷ []) i [])
+    by i inside (inl last) =
+        subst (λ (s : ℕ). PairsWithin (nogood_at earlier s) (nogood ++ get_or (cases ++ one ∷ []) i [])) (sym (get_or_push references r 0 i (sym last)))
+            (subst (λ (pairs : List Pair). PairsWithin (nogood_at earlier r) (nogood ++ pairs)) (sym (get_or_push cases one [] i (sym referred.as_many ∙ sym last))) within)
+    by i inside (inr before) =
+        let old : i < length references = omega arith in
+        let old_case : i < length cases = omega (arith, referred.as_many) in
+        subst (λ (s : ℕ). PairsWithin (nogood_at earlier s) (nogood ++ get_or (cases ++ one ∷ []) i [])) (sym (get_or_append_left references (r ∷ []) 0 i old))
+            (subst (λ (pairs : List Pair). PairsWithin (nogood_at earlier (get_or references i 0)) (nogood ++ pairs)) (sym (get_or_append_left cases (one ∷ []) [] i old_case)) (referred.contained i old))
+
+row_cases_more : (scope : List ℕ) (nogood : List Pair) (rows : List (List ℕ)) (k : ℕ) (d : List ℕ) → k < length rows → row_cases scope nogood (take (k + 1) rows) ≡ map (reading scope) (filter (is_case scope nogood) (take k rows) ++ cond (is_case scope nogood (get_or rows k d)) (get_or rows k d ∷ []) [])
+row_cases_more scope nogood rows k d inside = ap (map (reading scope)) (filter_more (is_case scope nogood) rows k d inside)
+
+-- a row that is no case wants no reference
+pub row_skipped : (earlier : List StepView) (scope : List ℕ) (nogood : List Pair) (rows : List (List ℕ)) (k : ℕ) (d : List ℕ) (references : List ℕ) → k < length rows → is_case scope nogood (get_or rows k d) ≡ false → HasReferences earlier nogood (row_cases scope nogood (take k rows)) references → HasReferences earlier nogood (row_cases scope nogood (take (k + 1) rows)) references
+row_skipped earlier scope nogood rows k d references inside excluded referred =
+    let front = filter (is_case scope nogood) (take k rows) in
+    let same : row_cases scope nogood (take (k + 1) rows) ≡ row_cases scope nogood (take k rows) =
+        row_cases_more scope nogood rows k d inside ∙ ap (map (reading scope)) (ap (λ more. front ++ more) (cond-false (is_case scope nogood (get_or rows k d)) (get_or rows k d ∷ []) [] excluded) ∙ append-nil front) in
+    subst (λ (cases : List (List Pair)). HasReferences earlier nogood cases references) (sym same) referred
+
+-- and one that is a case wants one
+pub row_referred : (earlier : List StepView) (scope : List ℕ) (nogood : List Pair) (rows : List (List ℕ)) (k : ℕ) (d : List ℕ) (references : List ℕ) (r : ℕ) → k < length rows → is_case scope nogood (get_or rows k d) ≡ true → HasReferences earlier nogood (row_cases scope nogood (take k rows)) references → r < length earlier → PairsWithin (nogood_at earlier r) (nogood ++ reading scope (get_or rows k d)) → HasReferences earlier nogood (row_cases scope nogood (take (k + 1) rows)) (references ++ r ∷ [])
+row_referred earlier scope nogood rows k d references r inside is referred known within =
+    let front = filter (is_case scope nogood) (take k rows) in
+    let row = get_or rows k d in
+    let same : row_cases scope nogood (take (k + 1) rows) ≡ row_cases scope nogood (take k rows) ++ reading scope row ∷ [] =
+        row_cases_more scope nogood rows k d inside ∙ (ap (λ more. map (reading scope) (front ++ more)) (cond-true (is_case scope nogood row) (row ∷ []) [] is) ∙ map_push (reading scope) front row) in
+    subst (λ (cases : List (List Pair)). HasReferences earlier nogood cases (references ++ r ∷ [])) (sym same) (referred_push earlier nogood (row_cases scope nogood (take k rows)) (reading scope row) references r referred known within)
+
+-- all rows are passed
+pub rows_referred : (earlier : List StepView) (scope : List ℕ) (nogood : List Pair) (rows : List (List ℕ)) (k : ℕ) (references : List ℕ) → length rows ≤ k → HasReferences earlier nogood (row_cases scope nogood (take k rows)) references → HasReferences earlier nogood (row_cases scope nogood rows) references
+rows_referred earlier scope nogood rows k references all referred = subst (λ (some : List (List ℕ)). HasReferences earlier nogood (row_cases scope nogood some) references) (take_all k rows all) referred
+
+pub value_referred : (earlier : List StepView) (nogood : List Pair) (v a : ℕ) (references : List ℕ) (r : ℕ) → HasReferences earlier nogood (value_cases v a) references → r < length earlier → PairsWithin (nogood_at earlier r) (nogood ++ value_case v a) → HasReferences earlier nogood (value_cases v (a + 1)) (references ++ r ∷ [])
+value_referred earlier nogood v a references r referred known within =
+    subst (λ (cases : List (List Pair)). HasReferences earlier nogood cases (references ++ r ∷ [])) (sym (map-range_with_len_more (value_case v) 0 a a (omega arith)))
+        (referred_push earlier nogood (value_cases v a) (value_case v a) references r referred known within)
+
+-- logs
+
+-- the nogood of a step stands where the log grows
+pub nogood_at-append : (log more : List StepView) (r : ℕ) → r < length log → nogood_at (log ++ more) r ≡ nogood_at log r
+nogood_at-append log more r known = ap (λ (s : StepView). s.nogood) (get_or_append_left log more (record { ground = Ground.ByVariable 0; nogood = []; references = [] }) r known)
+
+pub nogood_at-push : (log : List StepView) (s : StepView) → nogood_at (log ++ s ∷ []) (length log) ≡ s.nogood
+nogood_at-push log s = ap (λ (t : StepView). t.nogood) (get_or_push log s (record { ground = Ground.ByVariable 0; nogood = []; references = [] }) (length log) refl)
+
+pub valid_none : (lang : LanguageView) (inst : InstanceView) → AreValid lang inst []
+valid_none lang inst = λ i d inside. absurd (omega arith)
+
+-- valid steps and one more
+pub valid_push : (lang : LanguageView) (inst : InstanceView) (log : List StepView) (s : StepView) → AreValid lang inst log → IsValidStep lang inst log s → AreValid lang inst (log ++ s ∷ [])
+valid_push lang inst log s valid is = λ i d inside. by i d (omega (arith, length_push log s)) (cases_eq i (length log))
+  where
+    by : (i : ℕ) (d : StepView) → i < length log + 1 → (i ≡ length log) ⊎ (i ≡ length log → ⊥) → IsValidStep lang inst (take i (log ++ s ∷ [])) (get_or (log ++ s ∷ []) i d)
+    by i d inside (inl last) =
+        subst (λ (t : StepView). IsValidStep lang inst (take i (log ++ s ∷ [])) t) (sym (get_or_push log s d i (sym last)))
+            (subst (λ (front : List StepView). IsValidStep lang inst front s) (sym (take_at log (s ∷ []) i (sym last))) is)
+    by i d inside (inr before) =
+        let old : i < length log = omega arith in
+        subst (λ (t : StepView). IsValidStep lang inst (take i (log ++ s ∷ [])) t) (sym (get_or_append_left log (s ∷ []) d i old))
+            (subst (λ (front : List StepView). IsValidStep lang inst front (get_or log i d)) (sym (take-append-le i log (s ∷ []) (omega arith))) (valid i d old))
+
+-- valid steps of which the last has the empty nogood are a log without a fault
+pub no_fault : (lang : LanguageView) (inst : InstanceView) (log : List StepView) → AreValid lang inst log → 1 ≤ length log → nogood_at log (length log - 1) ≡ [] → log_fault lang inst log ≡ None
+no_fault lang inst log valid some empty = fault_from_valid lang inst log (record { steps = valid; some_steps = some; last_is_empty = empty })
+
+-- the step that refutes every assignment ends the log
+pub no_fault-push : (lang : LanguageView) (inst : InstanceView) (log : List StepView) (s : StepView) → AreValid lang inst log → IsValidStep lang inst log s → s.nogood ≡ [] → log_fault lang inst (log ++ s ∷ []) ≡ None
+no_fault-push lang inst log s valid is empty =
+    let last : length (log ++ s ∷ []) - 1 ≡ length log = omega (arith, length_push log s) in
+    no_fault lang inst (log ++ s ∷ []) (valid_push lang inst log s valid is) (omega (arith, length_push log s)) (ap (nogood_at (log ++ s ∷ [])) last ∙ (nogood_at-push log s ∙ empty))
+
+-- nogoods that are pairwise different and small, and one more
+pub FitsMost-none : (most : ℕ) → FitsMost most []
+FitsMost-none most = record { different = AllPairs-nil (λ (s t : StepView). s.nogood ≢ t.nogood); small = All-nil (λ (s : StepView). length s.nogood ≤ most) }
+
+pub FitsMost-push : (most : ℕ) (log : List StepView) (s : StepView) → FitsMost most log → length s.nogood ≤ most → All (λ t. t.nogood ≢ s.nogood) log → FitsMost most (log ++ s ∷ [])
+FitsMost-push most log s fits few other = record {
+  different = all_pairs_push (λ (s t : StepView). s.nogood ≢ t.nogood) log s fits.different (λ k d inside. other k d inside);
+  small = All-push (λ (s : StepView). length s.nogood ≤ most) log s fits.small few;
+}
+
+pub FitsMost-one : (most : ℕ) (s : StepView) → length s.nogood ≤ most → FitsMost most (s ∷ [])
+FitsMost-one most s few = record {
+  different = AllPairs-cons (λ (s t : StepView). s.nogood ≢ t.nogood) s [] (All-nil (λ (t : StepView). s.nogood ≢ t.nogood)) (AllPairs-nil (λ (s t : StepView). s.nogood ≢ t.nogood));
+  small = All-cons (λ (s : StepView). length s.nogood ≤ most) s [] few (All-nil (λ (s : StepView). length s.nogood ≤ most));
+}
+
+-- a constraint of an empty relation
+
+pub IsNogood-none : (n d : ℕ) → IsNogood n d []
+IsNogood-none n d = record { pairs = All-nil (IsPair n d); ascending = AllPairs-nil (λ (p q : Pair). p.variable < q.variable) }
+
+-- the log of one step, that the constraint has no case
+abbrev pub breaking_log : ℕ → List StepView
+breaking_log c = constraint_step_of c [] [] ∷ []
+
+pub breaking_log-no_fault : (lang : LanguageView) (inst : InstanceView) (c : ℕ) → c < length inst.constraints → rows_of lang (constraint_of inst c).relation ≡ [] → log_fault lang inst (breaking_log c) ≡ None
+breaking_log-no_fault lang inst c known empty =
+    let scope = (constraint_of inst c).scope in
+    no_fault-push lang inst [] (constraint_step_of c [] []) (valid_none lang inst)
+        (breaking_step lang inst [] c [] known (IsNogood-none (length inst.variables) lang.domain) (subst (λ (rows : List (List ℕ)). All (λ row. is_case scope [] row ≡ false) rows) (sym empty) (All-nil (λ row. is_case scope [] row ≡ false))))
+        refl
+
+pub breaking_log-fits : (most c : ℕ) → FitsMost most (breaking_log c)
+breaking_log-fits most c = FitsMost-one most (constraint_step_of c [] []) (omega arith)
