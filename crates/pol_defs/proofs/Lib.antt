@@ -16,4 +16,5 @@ pub mod LogFaults
 pub mod LogCases
 pub mod LogSound
 pub mod LogMaking
+pub mod Counting
 pub mod Examples
