@@ -14,6 +14,7 @@ pub mod LogLemmas
 pub mod MemberLemmas
 pub mod LogFaults
 pub mod LogCases
+pub mod LogWalks
 pub mod LogSound
 pub mod LogMaking
 pub mod Counting

@@ -1,9 +1,9 @@
 -- The cases of a step: which rows are cases, and that an assignment that meets the constraints reads one of them.
-use Rattle.std.proofs.Common.{◌≡◌, ◌≢◌, ℕ, ◌<◌, ◌⊎◌, inl, inr, true, false, not, eqb, List, [], ◌∷◌, ◌++◌, length, filter, get_or, All, Contains, refl, sym, ap, ◌∙◌, subst, arith}
+use Rattle.std.proofs.Common.{◌≡◌, ◌≢◌, ℕ, zero, suc, ◌<◌, ◌⊎◌, inl, inr, true, false, not, eqb, List, [], ◌∷◌, ◌++◌, length, filter, get_or, All, Contains, refl, sym, ap, ◌∙◌, subst, arith}
 use Rattle.std.specs.List.{list_all}
 use Rattle.std.proofs.lemmas.Bool.{or_cases, or_left, or_right, not-true, not_from_false, eqb-true, eq-eqb, ne_eqb, eqb-false, cases_eq, false_from_ne_true}
 use Rattle.std.proofs.lemmas.List.{get_or_default}
-use Rattle.std.proofs.lemmas.List.Elements.{All-nil, All-cons, All-append, All-contains}
+use Rattle.std.proofs.lemmas.List.Elements.{All-nil, All-cons, All-append, All-contains, Contains-get_or, Contains-append_left, Contains-append_right}
 use Rattle.std.proofs.lemmas.List.FromFn.{length-map-range_with_len, get_or-map-range_with_len}
 use Rattle.pol_defs.specs.Relations.{LanguageView, rows_of}
 use Rattle.pol_defs.specs.Instances.{InstanceView, IsSolution, constraint_of, no_constraint, read_at}
@@ -54,6 +54,65 @@ no_case scope nogood row p q read other same apart = false_from_ne_true (is_case
     let agrees : All (Agree p) (reading scope row ++ nogood) = All-contains (λ (p : Pair). All (Agree p) (reading scope row ++ nogood)) (reading scope row) p (case_from_test scope nogood row passes) read in
     let values = All-contains (Agree p) (reading scope row ++ nogood) q agrees other in
     apart (values same))
+
+-- the pairs of a reading, place by place
+
+abbrev pub pair_at : List ℕ → List ℕ → ℕ → Pair
+pair_at scope row j = record { variable = get_or scope j 0; value = get_or row j 0 }
+
+pub length-reading : (scope row : List ℕ) → length row ≡ length scope → length (reading scope row) ≡ length scope
+length-reading [] row long = refl
+length-reading (x ∷ scope) [] long = long
+length-reading (x ∷ scope) (v ∷ row) long = ap suc (length-reading scope row (omega arith))
+
+pub get_or-reading : (scope row : List ℕ) (j : ℕ) (d : Pair) → j < length scope → j < length row → get_or (reading scope row) j d ≡ pair_at scope row j
+get_or-reading [] row j d inside within = absurd (omega arith)
+get_or-reading (x ∷ scope) [] j d inside within = absurd (omega arith)
+get_or-reading (x ∷ scope) (v ∷ row) zero d inside within = refl
+get_or-reading (x ∷ scope) (v ∷ row) (suc j) d inside within = get_or-reading scope row j d (omega arith) (omega arith)
+
+-- what the row has at a place is read
+pub reading_place : (scope row : List ℕ) (j : ℕ) → length row ≡ length scope → j < length scope → Contains (reading scope row) (pair_at scope row j)
+reading_place scope row j long inside = (j, omega (arith, length-reading scope row long), get_or-reading scope row j (pair_at scope row j) inside (omega arith))
+
+-- and what holds at each place holds for each pair that is read
+pub All-reading : (P : Pair → Type 0) (scope row : List ℕ) → length row ≡ length scope → ((j : ℕ) → j < length scope → P (pair_at scope row j)) → All P (reading scope row)
+All-reading P scope row long holds = λ j d inside.
+    let within : j < length scope = omega (arith, length-reading scope row long) in
+    subst P (sym (get_or-reading scope row j d within (omega arith))) (holds j within)
+
+pub reading-All : (P : Pair → Type 0) (scope row : List ℕ) → length row ≡ length scope → All P (reading scope row) → (j : ℕ) → j < length scope → P (pair_at scope row j)
+reading-All P scope row long holds j inside = All-contains P (reading scope row) (pair_at scope row j) holds (reading_place scope row j long inside)
+
+-- the row has one value for each repeated variable, and the values that the nogood gives
+pub record IsCaseByPlace (scope : List ℕ) (nogood : List Pair) (row : List ℕ) : Type 0 where
+  pub repeats : (j k : ℕ) → j < length scope → k < length scope → get_or scope j 0 ≡ get_or scope k 0 → get_or row j 0 ≡ get_or row k 0
+  pub agrees : (j : ℕ) → j < length scope → All (λ q. get_or scope j 0 ≡ q.variable → get_or row j 0 ≡ q.value) nogood
+
+pub places_from_case : (scope : List ℕ) (nogood : List Pair) (row : List ℕ) → length row ≡ length scope → is_case scope nogood row ≡ true → IsCaseByPlace scope nogood row
+places_from_case scope nogood row long passes =
+    let read = reading scope row in
+    let at : (j : ℕ) → j < length scope → All (Agree (pair_at scope row j)) (read ++ nogood) = reading-All (λ (p : Pair). All (Agree p) (read ++ nogood)) scope row long (case_from_test scope nogood row passes) in
+    record {
+      repeats = λ j k inside within. All-contains (Agree (pair_at scope row j)) (read ++ nogood) (pair_at scope row k) (at j inside) (Contains-append_left read nogood (pair_at scope row k) (reading_place scope row k long within));
+      agrees = λ j inside k d within. All-contains (Agree (pair_at scope row j)) (read ++ nogood) (get_or nogood k d) (at j inside) (Contains-append_right read nogood (get_or nogood k d) (Contains-get_or nogood k d within));
+    }
+
+pub case_from_places : (scope : List ℕ) (nogood : List Pair) (row : List ℕ) → length row ≡ length scope → IsCaseByPlace scope nogood row → is_case scope nogood row ≡ true
+case_from_places scope nogood row long is =
+    test_from_case scope nogood row (All-reading (λ (p : Pair). All (Agree p) (reading scope row ++ nogood)) scope row long (λ j inside.
+        All-append (Agree (pair_at scope row j)) (reading scope row) nogood (All-reading (Agree (pair_at scope row j)) scope row long (λ k within. is.repeats j k inside within)) (is.agrees j inside)))
+
+-- one place at which the row has another value than the nogood excludes it
+pub excluded_at : (scope : List ℕ) (nogood : List Pair) (row : List ℕ) (j : ℕ) (q : Pair) → length row ≡ length scope → j < length scope → Contains nogood q → get_or scope j 0 ≡ q.variable → get_or row j 0 ≢ q.value → is_case scope nogood row ≡ false
+excluded_at scope nogood row j q long inside member same apart = no_case scope nogood row (pair_at scope row j) q (reading_place scope row j long inside) (Contains-append_right (reading scope row) nogood q member) same apart
+
+-- and so do two places of one variable at which it has two values
+pub excluded_by_repeat : (scope : List ℕ) (nogood : List Pair) (row : List ℕ) (j k : ℕ) → length row ≡ length scope → j < length scope → k < length scope → get_or scope j 0 ≡ get_or scope k 0 → get_or row j 0 ≢ get_or row k 0 → is_case scope nogood row ≡ false
+excluded_by_repeat scope nogood row j k long inside within same apart =
+    no_case scope nogood row (pair_at scope row j) (pair_at scope row k) (reading_place scope row j long inside) (Contains-append_left (reading scope row) nogood (pair_at scope row k) (reading_place scope row k long within)) same apart
+
+-- what a solution holds
 
 -- an assignment holds what it reads
 pub holds_reading : (assignment scope : List ℕ) → Holds assignment (reading scope (read_at assignment scope))

@@ -1,14 +1,14 @@
 -- Where a log has its first fault, step by step, and that a log without a fault is a valid one.
-use Rattle.std.proofs.Common.{◌≡◌, ℕ, zero, suc, ◌+◌, ◌-◌, ◌<◌, ◌≤◌, Bool, true, false, ◌&&◌, eqb, ltb, List, [], ◌∷◌, ◌++◌, length, get_or, take, drop, Option, Some, None, All, if◌then◌else◌, refl, sym, ap, ◌∙◌, arith, add-one}
+use Rattle.std.proofs.Common.{◌≡◌, ℕ, zero, suc, ◌+◌, ◌-◌, ◌<◌, ◌≤◌, ◌⊎◌, inl, inr, Bool, true, false, ◌&&◌, eqb, ltb, List, [], ◌∷◌, ◌++◌, length, get_or, take, drop, Option, Some, None, All, if◌then◌else◌, refl, sym, ap, ◌∙◌, subst, arith, add-one}
 use Rattle.std.specs.List.{list_all}
-use Rattle.std.proofs.lemmas.Bool.{true≢false, and_parts, and_from, ltb-true, lt-ltb, eqb-true, eq-eqb}
-use Rattle.std.proofs.lemmas.List.{length-take-le, get_or-take, take_more, drop_more, take_all, drop_all}
+use Rattle.std.proofs.lemmas.Bool.{true≢false, both_ways, cases_eq, and_parts, and_from, ltb-true, lt-ltb, eqb-true, eq-eqb}
+use Rattle.std.proofs.lemmas.List.{get_or_default, length-take-le, get_or-take, take_more, drop_more, take_all, drop_all}
 use Rattle.std.proofs.lemmas.List.Elements.{All-head, All-tail}
-use Rattle.std.proofs.lemmas.Option.{none-some}
+use Rattle.std.proofs.lemmas.Option.{none-some, same_Some}
 use Rattle.pol_defs.specs.Relations.{LanguageView}
 use Rattle.pol_defs.specs.Instances.{InstanceView}
 use Rattle.pol_defs.specs.Nogoods.{Pair, Ground, StepView, Why, LogFaultView, cases_of, contained_in, ground_placed, pairs_placed, ascending_pairs, is_placed, nogood_at, covered, fault_unless, step_fault, is_empty, ends_empty, after_step, end_fault, fault_from, log_fault}
-use Rattle.pol_defs.specs.ValidLogs.{IsValidStep, IsValidLog}
+use Rattle.pol_defs.specs.ValidLogs.{IsValidStep, IsValidLog, IsFirstFault}
 use Rattle.pol_defs.proofs.LogLemmas.{All-from_list_all, list_all-from_All, pairs_from_placed, placed_from_pairs, ascending_from_test, test_from_ascending, rests_from_placed, placed_from_rests, covers_from_test, test_from_covers}
 
 -- the four tests of a step
@@ -195,3 +195,56 @@ fault_from_valid lang inst log is =
     let past = past_valid lang inst log (length log) (omega arith) (λ k d inside. is.steps k d inside) in
     past_all lang inst log (length log) (omega arith) past
     ∙ ap (fault_of_end (length log)) (test_from_last log is.some_steps is.last_is_empty)
+
+-- the first fault in words
+
+end_from_fault : (log : List StepView) (fault : LogFaultView) → end_fault log ≡ Some fault → (ends_empty log ≡ false) × (record { step = length log; why = Why.NoEmptyEnd } ≡ fault)
+end_from_fault log fault found = by (ends_empty log) found
+  where
+    by : (ends : Bool) → fault_of_end (length log) ends ≡ Some fault → (ends ≡ false) × (record { step = length log; why = Why.NoEmptyEnd } ≡ fault)
+    by true found = absurd (none-some fault found)
+    by false found = (refl, same_Some (record { step = length log; why = Why.NoEmptyEnd }) fault found)
+
+first_at : (lang : LanguageView) (inst : InstanceView) (log : List StepView) (fault : LogFaultView) (k i : ℕ) → i + k ≡ length log → ((j : ℕ) (d : StepView) → j < i → IsValidStep lang inst (take j log) (get_or log j d)) → fault_from lang inst (take i log) (drop i log) ≡ Some fault → IsFirstFault lang inst log fault
+first_at lang inst log fault zero i all before found =
+    let past_end : fault_from lang inst (take i log) (drop i log) ≡ end_fault log = ap (λ rest. fault_from lang inst (take i log) rest) (drop_all i log (omega arith)) ∙ ap end_fault (take_all i log (omega arith)) in
+    let ended = end_from_fault log fault (sym past_end ∙ found) in
+    let place : length log ≡ fault.step = ap (λ (f : LogFaultView). f.step) ended.1 in
+    record {
+      within = omega arith;
+      before = λ j d less. before j d (omega arith);
+      at_step = λ inside d. absurd (omega arith);
+      at_end = λ same. (sym (ap (λ (f : LogFaultView). f.why) ended.1), λ some empty. both_ways (ends_empty log) ended.0 (test_from_last log some empty));
+    }
+first_at lang inst log fault (suc k) i all before found =
+    let d : StepView = record { ground = Ground.ByVariable 0; nogood = []; references = [] } in
+    let s = get_or log i d in
+    by (step_fault lang inst (take i log) s) refl (sym (fault_from-at lang inst log i d (omega arith)) ∙ found)
+        (λ valid rest. first_at lang inst log fault k (i + 1) (omega arith) valid rest)
+  where
+    same_at : (d e : StepView) → get_or log i d ≡ get_or log i e
+    same_at d e = get_or_default log i d e (omega arith)
+    by : (o : Option Why) → step_fault lang inst (take i log) (get_or log i (record { ground = Ground.ByVariable 0; nogood = []; references = [] })) ≡ o → after_step i o (fault_from lang inst (take (i + 1) log) (drop (i + 1) log)) ≡ Some fault
+        → (((j : ℕ) (d : StepView) → j < i + 1 → IsValidStep lang inst (take j log) (get_or log j d)) → fault_from lang inst (take (i + 1) log) (drop (i + 1) log) ≡ Some fault → IsFirstFault lang inst log fault) → IsFirstFault lang inst log fault
+    by None is rest onwards = onwards (λ j d less. earlier j d less (cases_eq j i)) rest
+      where
+        earlier : (j : ℕ) (d : StepView) → j < i + 1 → (j ≡ i) ⊎ (j ≡ i → ⊥) → IsValidStep lang inst (take j log) (get_or log j d)
+        earlier j d less (inl same) =
+            subst (λ (m : ℕ). IsValidStep lang inst (take m log) (get_or log m d)) (sym same)
+                (step_from_fault lang inst (take i log) (get_or log i d) (ap (step_fault lang inst (take i log)) (same_at d (record { ground = Ground.ByVariable 0; nogood = []; references = [] })) ∙ is))
+        earlier j d less (inr other) = before j d (omega arith)
+    by (Some why) is here onwards =
+        let same : record { step = i; why = why } ≡ fault = same_Some (record { step = i; why = why }) fault here in
+        let place : i ≡ fault.step = ap (λ (f : LogFaultView). f.step) same in
+        let reason : why ≡ fault.why = ap (λ (f : LogFaultView). f.why) same in
+        record {
+          within = omega arith;
+          before = λ j d less. before j d (omega arith);
+          at_step = λ inside d. subst (λ (m : ℕ). step_fault lang inst (take m log) (get_or log m d) ≡ Some fault.why) place
+              (ap (step_fault lang inst (take i log)) (same_at d (record { ground = Ground.ByVariable 0; nogood = []; references = [] })) ∙ (is ∙ ap (λ (w : Why). Some w) reason));
+          at_end = λ end. absurd (omega arith);
+        }
+
+-- the fault that is found is the first
+pub first_fault : (lang : LanguageView) (inst : InstanceView) (log : List StepView) (fault : LogFaultView) → log_fault lang inst log ≡ Some fault → IsFirstFault lang inst log fault
+first_fault lang inst log fault found = first_at lang inst log fault (length log) 0 (omega arith) (λ j d less. absurd (omega arith)) found

@@ -1,8 +1,8 @@
 -- What a maker of logs needs: valid steps from their parts, references one by one, and a log from its steps.
-use Rattle.std.proofs.Common.{◌≡◌, ◌≢◌, ℕ, ◌+◌, ◌-◌, ◌<◌, ◌≤◌, ◌⊎◌, inl, inr, Bool, true, false, cond, List, [], ◌∷◌, ◌++◌, length, map, filter, get_or, take, None, All, refl, sym, ap, ◌∙◌, subst, arith, append-nil}
+use Rattle.std.proofs.Common.{◌≡◌, ◌≢◌, ℕ, ◌+◌, ◌-◌, ◌<◌, ◌≤◌, ◌⊎◌, inl, inr, Bool, true, false, cond, List, [], ◌∷◌, ◌++◌, length, map, filter, get_or, take, None, All, Contains, refl, sym, ap, ◌∙◌, subst, arith, append-nil}
 use Rattle.std.proofs.lemmas.Bool.{cases_eq, cond-true, cond-false}
 use Rattle.std.proofs.lemmas.List.{length_push, get_or_push, get_or_append_left, take-append-le, take_at, take_all, map_push}
-use Rattle.std.proofs.lemmas.List.Elements.{All-nil, All-cons, All-push, All-head, All-tail, filter_more}
+use Rattle.std.proofs.lemmas.List.Elements.{All-nil, All-cons, All-push, All-head, All-tail, All-contains, All-contains_itself, Contains-append_left, Contains-append_right, filter_more}
 use Rattle.std.proofs.lemmas.List.FromFn.{length-map-range_with_len, get_or-map-range_with_len, map-range_with_len_more}
 use Rattle.std.proofs.lemmas.List.Kept.{AllPairs-cons}
 use Rattle.std.proofs.lemmas.List.Quantifiers.{all_pairs_push}
@@ -11,7 +11,49 @@ use Rattle.pol_defs.specs.Instances.{InstanceView, constraint_of}
 use Rattle.pol_defs.specs.Nogoods.{Pair, Ground, StepView, reading, is_case, value_case, nogood_at, log_fault, FitsMost}
 use Rattle.pol_defs.specs.ValidLogs.{PairsWithin, IsPair, IsNogood, row_cases, value_cases, HasReferences, IsValidStep, AreValid}
 use Rattle.pol_defs.proofs.RelationLemmas.{AllPairs-nil}
+use Rattle.pol_defs.proofs.LogCases.{pair_at, reading_place}
 use Rattle.pol_defs.proofs.LogFaults.{fault_from_valid}
+
+-- nogoods
+
+pub IsNogood-none : (n d : ℕ) → IsNogood n d []
+IsNogood-none n d = record { pairs = All-nil (IsPair n d); ascending = AllPairs-nil (λ (p q : Pair). p.variable < q.variable) }
+
+-- a nogood and a pair of a later variable
+pub IsNogood-push : (n d : ℕ) (nogood : List Pair) (p : Pair) → IsNogood n d nogood → IsPair n d p → All (λ q. q.variable < p.variable) nogood → IsNogood n d (nogood ++ p ∷ [])
+IsNogood-push n d nogood p is pair before = record {
+  pairs = All-push (IsPair n d) nogood p is.pairs pair;
+  ascending = all_pairs_push (λ (p q : Pair). p.variable < q.variable) nogood p is.ascending (λ k e inside. before k e inside);
+}
+
+pub IsNogood-one : (n d : ℕ) (p : Pair) → IsPair n d p → IsNogood n d (p ∷ [])
+IsNogood-one n d p pair = IsNogood-push n d [] p (IsNogood-none n d) pair (All-nil (λ (q : Pair). q.variable < p.variable))
+
+pub PairsWithin-none : (pairs : List Pair) → PairsWithin [] pairs
+PairsWithin-none pairs = All-nil (Contains pairs)
+
+pub PairsWithin-one : (p : Pair) (pairs : List Pair) → Contains pairs p → PairsWithin (p ∷ []) pairs
+PairsWithin-one p pairs inside = All-cons (Contains pairs) p [] inside (All-nil (Contains pairs))
+
+pub PairsWithin-left : (some pairs more : List Pair) → PairsWithin some pairs → PairsWithin some (pairs ++ more)
+PairsWithin-left some pairs more within = λ k d inside. Contains-append_left pairs more (get_or some k d) (within k d inside)
+
+pub PairsWithin-right : (some pairs more : List Pair) → PairsWithin some more → PairsWithin some (pairs ++ more)
+PairsWithin-right some pairs more within = λ k d inside. Contains-append_right pairs more (get_or some k d) (within k d inside)
+
+pub PairsWithin-itself : (pairs : List Pair) → PairsWithin pairs pairs
+PairsWithin-itself pairs = All-contains_itself pairs
+
+pub PairsWithin-trans : (some pairs others : List Pair) → PairsWithin some pairs → PairsWithin pairs others → PairsWithin some others
+PairsWithin-trans some pairs others within inside = λ k d known. All-contains (Contains others) pairs (get_or some k d) inside (within k d known)
+
+-- a nogood of one pair that the row has at a place is contained in its reading
+pub reading_covers : (nogood : List Pair) (scope row : List ℕ) (j : ℕ) → length row ≡ length scope → j < length scope → PairsWithin (pair_at scope row j ∷ []) (nogood ++ reading scope row)
+reading_covers nogood scope row j long inside =
+    PairsWithin-one (pair_at scope row j) (nogood ++ reading scope row) (Contains-append_right nogood (reading scope row) (pair_at scope row j) (reading_place scope row j long inside))
+
+pub value_covers : (nogood : List Pair) (v a : ℕ) → PairsWithin (value_case v a) (nogood ++ value_case v a)
+value_covers nogood v a = PairsWithin-right (value_case v a) nogood (value_case v a) (PairsWithin-itself (value_case v a))
 
 -- steps
 
@@ -160,9 +202,6 @@ FitsMost-one most s few = record {
 }
 
 -- a constraint of an empty relation
-
-pub IsNogood-none : (n d : ℕ) → IsNogood n d []
-IsNogood-none n d = record { pairs = All-nil (IsPair n d); ascending = AllPairs-nil (λ (p q : Pair). p.variable < q.variable) }
 
 -- the log of one step, that the constraint has no case
 abbrev pub breaking_log : ℕ → List StepView

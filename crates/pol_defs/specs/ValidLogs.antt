@@ -1,9 +1,9 @@
 -- Valid steps and logs, in the field's words, and how many nogoods there are.
-use Rattle.std.specs.Prelude.{◌≡◌, ◌≢◌, ℕ, zero, suc, ◌+◌, ◌-◌, ◌*◌, ◌<◌, ◌≤◌, List, [], ◌++◌, length, take, map, filter, slice_index, slice_index_or, All, AllPairs, Contains}
+use Rattle.std.specs.Prelude.{◌≡◌, ◌≢◌, ℕ, zero, suc, ◌+◌, ◌-◌, ◌*◌, ◌<◌, ◌≤◌, List, [], ◌++◌, length, take, map, filter, slice_index, slice_index_or, All, AllPairs, Contains, Some}
 use Rattle.std.specs.List.{range_with_len}
 use Rattle.pol_defs.specs.Relations.{LanguageView}
 use Rattle.pol_defs.specs.Instances.{InstanceView}
-use Rattle.pol_defs.specs.Nogoods.{Pair, Ground, StepView, reading, is_case, value_case, cases_of, nogood_at}
+use Rattle.pol_defs.specs.Nogoods.{Pair, Ground, StepView, reading, is_case, value_case, Why, LogFaultView, cases_of, nogood_at, step_fault}
 
 -- each pair of the first list is in the second
 abbrev pub PairsWithin : List Pair → List Pair → Type 0
@@ -53,6 +53,13 @@ pub record IsValidLog (lang : LanguageView) (inst : InstanceView) (log : List St
   pub steps : AreValid lang inst log
   pub some_steps : 1 ≤ length log
   pub last_is_empty : nogood_at log (length log - 1) ≡ []
+
+-- behind valid steps the step that is not valid, and why; or behind them all an end that refutes nothing
+pub record IsFirstFault (lang : LanguageView) (inst : InstanceView) (log : List StepView) (fault : LogFaultView) : Type 0 where
+  pub within : fault.step ≤ length log
+  pub before : (i : ℕ) (d : StepView) → i < fault.step → IsValidStep lang inst (take i log) (slice_index_or log i d)
+  pub at_step : fault.step < length log → (d : StepView) → step_fault lang inst (take fault.step log) (slice_index_or log fault.step d) ≡ Some fault.why
+  pub at_end : fault.step ≡ length log → (fault.why ≡ Why.NoEmptyEnd) × (1 ≤ length log → nogood_at log (length log - 1) ≢ [])
 
 -- the number of nogoods of at most so many pairs over n variables and d values: the first variable is not named, or has one of d values
 abbrev pub nogood_count : (d n most : ℕ) → ℕ
