@@ -64,7 +64,7 @@ in_with_values v (suc d) a nogoods rest below inside = by (cases_eq a d) (λ les
     by : (a ≡ d) ⊎ (a ≡ d → ⊥) → (a < d → Contains (with_values v d nogoods) (record { variable = v; value = a } ∷ rest)) → Contains (with_values v (suc d) nogoods) (record { variable = v; value = a } ∷ rest)
     by (inl last) before =
         subst (λ (b : ℕ). Contains (with_values v (suc d) nogoods) (record { variable = v; value = b } ∷ rest)) (sym last)
-            (Contains-append_right (with_values v d nogoods) (map (λ (rest : List Pair). record { variable = v; value = d } ∷ rest) nogoods) (record { variable = v; value = d } ∷ rest) (in_map (λ (rest : List Pair). record { variable = v; value = d } ∷ rest) nogoods rest inside))
+        (Contains-append_right (with_values v d nogoods) (map (λ (rest : List Pair). record { variable = v; value = d } ∷ rest) nogoods) (record { variable = v; value = d } ∷ rest) (in_map (λ (rest : List Pair). record { variable = v; value = d } ∷ rest) nogoods rest inside))
     by (inr other) before =
         Contains-append_left (with_values v d nogoods) (map (λ (rest : List Pair). record { variable = v; value = d } ∷ rest) nogoods) (record { variable = v; value = a } ∷ rest) (before (omega arith))
 
@@ -84,8 +84,8 @@ listed d low (suc n) high (suc most) [] ends is from few =
     Contains-append_left (all_nogoods d (low + 1) n (suc most)) (with_values low d (all_nogoods d (low + 1) n most)) [] (listed d (low + 1) n high (suc most) [] (omega arith) is (All-nil (λ (p : Pair). low + 1 ≤ p.variable)) (omega arith))
 listed d low (suc n) high (suc most) (p ∷ rest) ends is from few =
     by (cases_eq p.variable low)
-        (λ above. listed d (low + 1) n high most rest (omega arith) (IsNogood-tail high d p rest is) above (omega arith))
-        (λ above. listed d (low + 1) n high (suc most) (p ∷ rest) (omega arith) is above few)
+    (λ above. listed d (low + 1) n high most rest (omega arith) (IsNogood-tail high d p rest is) above (omega arith))
+    (λ above. listed d (low + 1) n high (suc most) (p ∷ rest) (omega arith) is above few)
   where
     by : (p.variable ≡ low) ⊎ (p.variable ≡ low → ⊥) → (All (λ q. low + 1 ≤ q.variable) rest → Contains (all_nogoods d (low + 1) n most) rest) → (All (λ q. low + 1 ≤ q.variable) (p ∷ rest) → Contains (all_nogoods d (low + 1) n (suc most)) (p ∷ rest)) → Contains (all_nogoods d low (suc n) (suc most)) (p ∷ rest)
     by (inl first) behind_first without_first =
@@ -93,15 +93,15 @@ listed d low (suc n) high (suc most) (p ∷ rest) ends is from few =
         let above : All (λ q. low + 1 ≤ q.variable) rest = All-weaker (λ (q : Pair). p.variable < q.variable) (λ q. low + 1 ≤ q.variable) (λ q less. omega arith) rest greater in
         let known : IsPair high d p = All-head (IsPair high d) p rest is.pairs in
         Contains-append_right (all_nogoods d (low + 1) n (suc most)) (with_values low d (all_nogoods d (low + 1) n most)) (p ∷ rest)
-            (subst (λ (v : ℕ). Contains (with_values low d (all_nogoods d (low + 1) n most)) (record { variable = v; value = p.value } ∷ rest)) (sym first)
-                (in_with_values low d p.value (all_nogoods d (low + 1) n most) rest known.value_known (behind_first above)))
+        (subst (λ (v : ℕ). Contains (with_values low d (all_nogoods d (low + 1) n most)) (record { variable = v; value = p.value } ∷ rest)) (sym first)
+        (in_with_values low d p.value (all_nogoods d (low + 1) n most) rest known.value_known (behind_first above)))
     by (inr later) behind_first without_first =
         let from_low : low ≤ p.variable = All-head (λ (p : Pair). low ≤ p.variable) p rest from in
         let here : low + 1 ≤ p.variable = omega arith in
         let greater = AllPairs-head (λ (p q : Pair). p.variable < q.variable) p rest is.ascending in
         let above : All (λ q. low + 1 ≤ q.variable) rest = All-weaker (λ (q : Pair). p.variable < q.variable) (λ q. low + 1 ≤ q.variable) (λ q less. omega arith) rest greater in
         Contains-append_left (all_nogoods d (low + 1) n (suc most)) (with_values low d (all_nogoods d (low + 1) n most)) (p ∷ rest)
-            (without_first (All-cons (λ (q : Pair). low + 1 ≤ q.variable) p rest here above))
+        (without_first (All-cons (λ (q : Pair). low + 1 ≤ q.variable) p rest here above))
 
 -- the nogoods of a log
 
@@ -118,7 +118,7 @@ different_nogoods log different = λ i j d less inside same.
 pub few_nogoods : (d n most : ℕ) (log : List StepView) → All (λ s. IsNogood n d s.nogood) log → FitsMost most log → length log ≤ nogood_count d n most
 few_nogoods d n most log are fits =
     let inside : All (Contains (all_nogoods d 0 n most)) (nogoods_of log) =
-        All-map (Contains (all_nogoods d 0 n most)) (λ (s : StepView). s.nogood) log (λ k e within. listed d 0 n n most (get_or log k e).nogood (omega arith) (are k e within) (λ i p known. omega arith) (fits.small k e within)) in
+    All-map (Contains (all_nogoods d 0 n most)) (λ (s : StepView). s.nogood) log (λ k e within. listed d 0 n n most (get_or log k e).nogood (omega arith) (are k e within) (λ i p known. omega arith) (fits.small k e within)) in
     omega (arith, no_longer (nogoods_of log) (all_nogoods d 0 n most) (different_nogoods log fits.different) inside, length-map log (λ (s : StepView). s.nogood), length-all_nogoods d 0 n most)
 
 -- a log of valid steps that fits is short

@@ -101,7 +101,7 @@ places_from_case scope nogood row long passes =
 pub case_from_places : (scope : List ℕ) (nogood : List Pair) (row : List ℕ) → length row ≡ length scope → IsCaseByPlace scope nogood row → is_case scope nogood row ≡ true
 case_from_places scope nogood row long is =
     test_from_case scope nogood row (All-reading (λ (p : Pair). All (Agree p) (reading scope row ++ nogood)) scope row long (λ j inside.
-        All-append (Agree (pair_at scope row j)) (reading scope row) nogood (All-reading (Agree (pair_at scope row j)) scope row long (λ k within. is.repeats j k inside within)) (is.agrees j inside)))
+    All-append (Agree (pair_at scope row j)) (reading scope row) nogood (All-reading (Agree (pair_at scope row j)) scope row long (λ k within. is.repeats j k inside within)) (is.agrees j inside)))
 
 -- one place at which the row has another value than the nogood excludes it
 pub excluded_at : (scope : List ℕ) (nogood : List Pair) (row : List ℕ) (j : ℕ) (q : Pair) → length row ≡ length scope → j < length scope → Contains nogood q → get_or scope j 0 ≡ q.variable → get_or row j 0 ≢ q.value → is_case scope nogood row ≡ false
@@ -157,8 +157,8 @@ solution_case lang inst assignment nogood (Ground.ByConstraint c) solution known
     let scope = (constraint_of inst c).scope in
     let one = reading scope (read_at assignment scope) in
     held_case (Holds assignment) nogood (cases_of lang inst (Ground.ByConstraint c) nogood) one
-        (row_in_cases lang inst c nogood (read_at assignment scope) (solution.meets c no_constraint known) (case_held assignment scope nogood holds))
-        (All-append (λ (p : Pair). get_or assignment p.variable 0 ≡ p.value) nogood one holds (holds_reading assignment scope))
+    (row_in_cases lang inst c nogood (read_at assignment scope) (solution.meets c no_constraint known) (case_held assignment scope nogood holds))
+    (All-append (λ (p : Pair). get_or assignment p.variable 0 ≡ p.value) nogood one holds (holds_reading assignment scope))
 solution_case lang inst assignment nogood (Ground.ByVariable v) solution known holds =
     let value = get_or assignment v 0 in
     let below : value < lang.domain = solution.assigns.below v 0 (omega (arith, solution.assigns.long, known.0)) in

@@ -60,10 +60,10 @@ fault_from_step lang inst earlier s is =
     let first = and_from (ground_placed inst s.ground s.nogood) (pairs_placed n lang.domain s.nogood) (placed_from_rests inst s.nogood s.ground is.rests) (placed_from_pairs n lang.domain s.nogood is.is_nogood.pairs) in
     let placed = and_from (ground_placed inst s.ground s.nogood && pairs_placed n lang.domain s.nogood) (ascending_pairs s.nogood) first (test_from_ascending s.nogood is.is_nogood.ascending) in
     none_from_passes (is_placed lang inst s) (list_all (λ r. ltb r (length earlier)) s.references) (covered earlier s.nogood cases s.references) (eqb (length s.references) (length cases))
-        placed
-        (list_all-from_All (λ r. ltb r (length earlier)) (λ r. r < length earlier) (λ r. lt-ltb r (length earlier)) s.references is.referred.to_earlier)
-        (test_from_covers earlier s.nogood cases s.references (λ i within inside. is.referred.contained i within))
-        (eq-eqb (length s.references) (length cases) is.referred.as_many)
+    placed
+    (list_all-from_All (λ r. ltb r (length earlier)) (λ r. r < length earlier) (λ r. lt-ltb r (length earlier)) s.references is.referred.to_earlier)
+    (test_from_covers earlier s.nogood cases s.references (λ i within inside. is.referred.contained i within))
+    (eq-eqb (length s.references) (length cases) is.referred.as_many)
 
 -- a reader of the log that has passed its first i steps
 
@@ -220,10 +220,11 @@ first_at lang inst log fault (suc k) i all before found =
     let d : StepView = record { ground = Ground.ByVariable 0; nogood = []; references = [] } in
     let s = get_or log i d in
     by (step_fault lang inst (take i log) s) refl (sym (fault_from-at lang inst log i d (omega arith)) ∙ found)
-        (λ valid rest. first_at lang inst log fault k (i + 1) (omega arith) valid rest)
+    (λ valid rest. first_at lang inst log fault k (i + 1) (omega arith) valid rest)
   where
     same_at : (d e : StepView) → get_or log i d ≡ get_or log i e
     same_at d e = get_or_default log i d e (omega arith)
+
     by : (o : Option Why) → step_fault lang inst (take i log) (get_or log i (record { ground = Ground.ByVariable 0; nogood = []; references = [] })) ≡ o → after_step i o (fault_from lang inst (take (i + 1) log) (drop (i + 1) log)) ≡ Some fault
         → (((j : ℕ) (d : StepView) → j < i + 1 → IsValidStep lang inst (take j log) (get_or log j d)) → fault_from lang inst (take (i + 1) log) (drop (i + 1) log) ≡ Some fault → IsFirstFault lang inst log fault) → IsFirstFault lang inst log fault
     by None is rest onwards = onwards (λ j d less. earlier j d less (cases_eq j i)) rest
@@ -231,7 +232,7 @@ first_at lang inst log fault (suc k) i all before found =
         earlier : (j : ℕ) (d : StepView) → j < i + 1 → (j ≡ i) ⊎ (j ≡ i → ⊥) → IsValidStep lang inst (take j log) (get_or log j d)
         earlier j d less (inl same) =
             subst (λ (m : ℕ). IsValidStep lang inst (take m log) (get_or log m d)) (sym same)
-                (step_from_fault lang inst (take i log) (get_or log i d) (ap (step_fault lang inst (take i log)) (same_at d (record { ground = Ground.ByVariable 0; nogood = []; references = [] })) ∙ is))
+            (step_from_fault lang inst (take i log) (get_or log i d) (ap (step_fault lang inst (take i log)) (same_at d (record { ground = Ground.ByVariable 0; nogood = []; references = [] })) ∙ is))
         earlier j d less (inr other) = before j d (omega arith)
     by (Some why) is here onwards =
         let same : record { step = i; why = why } ≡ fault = same_Some (record { step = i; why = why }) fault here in

@@ -114,12 +114,12 @@ referred_push earlier nogood cases one references r referred known within = reco
     by : (i : ℕ) → i < length references + 1 → (i ≡ length references) ⊎ (i ≡ length references → ⊥) → PairsWithin (nogood_at earlier (get_or (references ++ r ∷ []) i 0)) (nogood ++ get_or (cases ++ one ∷ []) i [])
     by i inside (inl last) =
         subst (λ (s : ℕ). PairsWithin (nogood_at earlier s) (nogood ++ get_or (cases ++ one ∷ []) i [])) (sym (get_or_push references r 0 i (sym last)))
-            (subst (λ (pairs : List Pair). PairsWithin (nogood_at earlier r) (nogood ++ pairs)) (sym (get_or_push cases one [] i (sym referred.as_many ∙ sym last))) within)
+        (subst (λ (pairs : List Pair). PairsWithin (nogood_at earlier r) (nogood ++ pairs)) (sym (get_or_push cases one [] i (sym referred.as_many ∙ sym last))) within)
     by i inside (inr before) =
         let old : i < length references = omega arith in
         let old_case : i < length cases = omega (arith, referred.as_many) in
         subst (λ (s : ℕ). PairsWithin (nogood_at earlier s) (nogood ++ get_or (cases ++ one ∷ []) i [])) (sym (get_or_append_left references (r ∷ []) 0 i old))
-            (subst (λ (pairs : List Pair). PairsWithin (nogood_at earlier (get_or references i 0)) (nogood ++ pairs)) (sym (get_or_append_left cases (one ∷ []) [] i old_case)) (referred.contained i old))
+        (subst (λ (pairs : List Pair). PairsWithin (nogood_at earlier (get_or references i 0)) (nogood ++ pairs)) (sym (get_or_append_left cases (one ∷ []) [] i old_case)) (referred.contained i old))
 
 row_cases_more : (scope : List ℕ) (nogood : List Pair) (rows : List (List ℕ)) (k : ℕ) (d : List ℕ) → k < length rows → row_cases scope nogood (take (k + 1) rows) ≡ map (reading scope) (filter (is_case scope nogood) (take k rows) ++ cond (is_case scope nogood (get_or rows k d)) (get_or rows k d ∷ []) [])
 row_cases_more scope nogood rows k d inside = ap (map (reading scope)) (filter_more (is_case scope nogood) rows k d inside)
@@ -129,7 +129,7 @@ pub row_skipped : (earlier : List StepView) (scope : List ℕ) (nogood : List Pa
 row_skipped earlier scope nogood rows k d references inside excluded referred =
     let front = filter (is_case scope nogood) (take k rows) in
     let same : row_cases scope nogood (take (k + 1) rows) ≡ row_cases scope nogood (take k rows) =
-        row_cases_more scope nogood rows k d inside ∙ ap (map (reading scope)) (ap (λ more. front ++ more) (cond-false (is_case scope nogood (get_or rows k d)) (get_or rows k d ∷ []) [] excluded) ∙ append-nil front) in
+    row_cases_more scope nogood rows k d inside ∙ ap (map (reading scope)) (ap (λ more. front ++ more) (cond-false (is_case scope nogood (get_or rows k d)) (get_or rows k d ∷ []) [] excluded) ∙ append-nil front) in
     subst (λ (cases : List (List Pair)). HasReferences earlier nogood cases references) (sym same) referred
 
 -- and one that is a case wants one
@@ -138,7 +138,7 @@ row_referred earlier scope nogood rows k d references r inside is referred known
     let front = filter (is_case scope nogood) (take k rows) in
     let row = get_or rows k d in
     let same : row_cases scope nogood (take (k + 1) rows) ≡ row_cases scope nogood (take k rows) ++ reading scope row ∷ [] =
-        row_cases_more scope nogood rows k d inside ∙ (ap (λ more. map (reading scope) (front ++ more)) (cond-true (is_case scope nogood row) (row ∷ []) [] is) ∙ map_push (reading scope) front row) in
+    row_cases_more scope nogood rows k d inside ∙ (ap (λ more. map (reading scope) (front ++ more)) (cond-true (is_case scope nogood row) (row ∷ []) [] is) ∙ map_push (reading scope) front row) in
     subst (λ (cases : List (List Pair)). HasReferences earlier nogood cases (references ++ r ∷ [])) (sym same) (referred_push earlier nogood (row_cases scope nogood (take k rows)) (reading scope row) references r referred known within)
 
 -- all rows are passed
@@ -148,7 +148,7 @@ rows_referred earlier scope nogood rows k references all referred = subst (λ (s
 pub value_referred : (earlier : List StepView) (nogood : List Pair) (v a : ℕ) (references : List ℕ) (r : ℕ) → HasReferences earlier nogood (value_cases v a) references → r < length earlier → PairsWithin (nogood_at earlier r) (nogood ++ value_case v a) → HasReferences earlier nogood (value_cases v (a + 1)) (references ++ r ∷ [])
 value_referred earlier nogood v a references r referred known within =
     subst (λ (cases : List (List Pair)). HasReferences earlier nogood cases (references ++ r ∷ [])) (sym (map-range_with_len_more (value_case v) 0 a a (omega arith)))
-        (referred_push earlier nogood (value_cases v a) (value_case v a) references r referred known within)
+    (referred_push earlier nogood (value_cases v a) (value_case v a) references r referred known within)
 
 -- logs
 
@@ -169,11 +169,11 @@ valid_push lang inst log s valid is = λ i d inside. by i d (omega (arith, lengt
     by : (i : ℕ) (d : StepView) → i < length log + 1 → (i ≡ length log) ⊎ (i ≡ length log → ⊥) → IsValidStep lang inst (take i (log ++ s ∷ [])) (get_or (log ++ s ∷ []) i d)
     by i d inside (inl last) =
         subst (λ (t : StepView). IsValidStep lang inst (take i (log ++ s ∷ [])) t) (sym (get_or_push log s d i (sym last)))
-            (subst (λ (front : List StepView). IsValidStep lang inst front s) (sym (take_at log (s ∷ []) i (sym last))) is)
+        (subst (λ (front : List StepView). IsValidStep lang inst front s) (sym (take_at log (s ∷ []) i (sym last))) is)
     by i d inside (inr before) =
         let old : i < length log = omega arith in
         subst (λ (t : StepView). IsValidStep lang inst (take i (log ++ s ∷ [])) t) (sym (get_or_append_left log (s ∷ []) d i old))
-            (subst (λ (front : List StepView). IsValidStep lang inst front (get_or log i d)) (sym (take-append-le i log (s ∷ []) (omega arith))) (valid i d old))
+        (subst (λ (front : List StepView). IsValidStep lang inst front (get_or log i d)) (sym (take-append-le i log (s ∷ []) (omega arith))) (valid i d old))
 
 -- valid steps of which the last has the empty nogood are a log without a fault
 pub no_fault : (lang : LanguageView) (inst : InstanceView) (log : List StepView) → AreValid lang inst log → 1 ≤ length log → nogood_at log (length log - 1) ≡ [] → log_fault lang inst log ≡ None
@@ -211,8 +211,8 @@ pub breaking_log-no_fault : (lang : LanguageView) (inst : InstanceView) (c : ℕ
 breaking_log-no_fault lang inst c known empty =
     let scope = (constraint_of inst c).scope in
     no_fault-push lang inst [] (constraint_step_of c [] []) (valid_none lang inst)
-        (breaking_step lang inst [] c [] known (IsNogood-none (length inst.variables) lang.domain) (subst (λ (rows : List (List ℕ)). All (λ row. is_case scope [] row ≡ false) rows) (sym empty) (All-nil (λ row. is_case scope [] row ≡ false))))
-        refl
+    (breaking_step lang inst [] c [] known (IsNogood-none (length inst.variables) lang.domain) (subst (λ (rows : List (List ℕ)). All (λ row. is_case scope [] row ≡ false) rows) (sym empty) (All-nil (λ row. is_case scope [] row ≡ false))))
+    refl
 
 pub breaking_log-fits : (most c : ℕ) → FitsMost most (breaking_log c)
 breaking_log-fits most c = FitsMost-one most (constraint_step_of c [] []) (omega arith)

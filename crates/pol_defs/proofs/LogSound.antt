@@ -32,7 +32,7 @@ refuted_below lang inst Held log valid parts cases zero within i below held = om
 refuted_below lang inst Held log valid parts cases (suc n) within i below held =
     let d : StepView = record { ground = Ground.ByVariable 0; nogood = []; references = [] } in
     reference_held lang inst Held log i (get_or log i d) (omega arith) (valid i d (omega arith)) parts (cases i d (omega arith) held)
-        (λ r before. refuted_below lang inst Held log valid parts cases n (omega arith) r (omega arith))
+    (λ r before. refuted_below lang inst Held log valid parts cases n (omega arith) r (omega arith))
 
 -- no nogood of a valid log is held
 pub refuted_all : (lang : LanguageView) (inst : InstanceView) (Held : List Pair → Type 0) (log : List StepView) → AreValid lang inst log → HoldsParts Held → HoldsCases lang inst Held log → (i : ℕ) → i < length log → Held (nogood_at log i) → ⊥
@@ -53,7 +53,7 @@ pub valid_log_sound : (lang : LanguageView) (inst : InstanceView) (log : List St
 valid_log_sound lang inst log assignment is solution =
     let last : length log - 1 < length log = omega (arith, is.some_steps) in
     steps_sound lang inst log is.steps (length log - 1) last assignment solution
-        (subst (λ (pairs : List Pair). Holds assignment pairs) (sym is.last_is_empty) (All-nil (λ (p : Pair). get_or assignment p.variable 0 ≡ p.value)))
+    (subst (λ (pairs : List Pair). Holds assignment pairs) (sym is.last_is_empty) (All-nil (λ (p : Pair). get_or assignment p.variable 0 ≡ p.value)))
 
 -- an instance that has a log without a fault has no solution
 pub log_sound : (lang : LanguageView) (inst : InstanceView) (log : List StepView) (assignment : List ℕ) → log_fault lang inst log ≡ None → IsSolution lang inst assignment → ⊥

@@ -24,7 +24,7 @@ covered-no_reference earlier nogood cases references k all = ap (covered earlier
 pub not_covered : (earlier : List StepView) (nogood : List Pair) (cases : List (List Pair)) (references : List ℕ) (i : ℕ) → i < length references → i < length cases → contained_in (nogood_at earlier (get_or references i 0)) (nogood ++ get_or cases i []) ≡ false → covered earlier nogood cases references ≡ false
 not_covered earlier nogood cases references i inside within fails = false_from_ne_true (covered earlier nogood cases references) (λ passes.
     both_ways (contained_in (nogood_at earlier (get_or references i 0)) (nogood ++ get_or cases i [])) fails
-        (contained_in_from_within (nogood_at earlier (get_or references i 0)) (nogood ++ get_or cases i []) (covers_from_test earlier nogood cases references passes i inside within)))
+    (contained_in_from_within (nogood_at earlier (get_or references i 0)) (nogood ++ get_or cases i []) (covers_from_test earlier nogood cases references passes i inside within)))
 
 -- the cases of the rows that are left
 
