@@ -132,3 +132,13 @@ three_pairs = refl
 
 pub one_pair : nogood_count 5 40 1 ≡ 201
 one_pair = refl
+
+pub few_steps_of_three : (lang : LanguageView) (inst : InstanceView) (log : List StepView) → lang.domain ≤ 5 → length inst.variables ≤ 40 → AreValid lang inst log → FitsMost 3 log → length log ≤ 1254701
+few_steps_of_three lang inst log values variables valid fits =
+    let more = count_more lang.domain 5 (length inst.variables) 40 3 3 values variables (omega arith) in
+    omega (arith, few_steps lang inst 3 log valid fits, more, three_pairs)
+
+pub few_steps_of_one : (lang : LanguageView) (inst : InstanceView) (log : List StepView) → lang.domain ≤ 5 → length inst.variables ≤ 40 → AreValid lang inst log → FitsMost 1 log → length log ≤ 201
+few_steps_of_one lang inst log values variables valid fits =
+    let more = count_more lang.domain 5 (length inst.variables) 40 1 1 values variables (omega arith) in
+    omega (arith, few_steps lang inst 1 log valid fits, more, one_pair)

@@ -7,8 +7,8 @@ use Rattle.std.proofs.lemmas.List.Elements.{All-head, All-tail}
 use Rattle.std.proofs.lemmas.Option.{none-some, same_Some}
 use Rattle.pol_defs.specs.Relations.{LanguageView}
 use Rattle.pol_defs.specs.Instances.{InstanceView}
-use Rattle.pol_defs.specs.Nogoods.{Pair, Ground, StepView, Why, LogFaultView, cases_of, contained_in, ground_placed, pairs_placed, ascending_pairs, is_placed, nogood_at, covered, fault_unless, step_fault, is_empty, ends_empty, after_step, end_fault, fault_from, log_fault}
-use Rattle.pol_defs.specs.ValidLogs.{IsValidStep, IsValidLog, IsFirstFault}
+use Rattle.pol_defs.specs.Nogoods.{Pair, StepView, Why, LogFaultView, cases_of, contained_in, ground_placed, pairs_placed, ascending_pairs, is_placed, nogood_at, covered, fault_unless, step_fault, is_empty, ends_empty, after_step, end_fault, fault_from, log_fault}
+use Rattle.pol_defs.specs.ValidLogs.{no_step, IsValidStep, IsValidLog, IsFirstFault}
 use Rattle.pol_defs.proofs.LogLemmas.{All-from_list_all, list_all-from_All, pairs_from_placed, placed_from_pairs, ascending_from_test, test_from_ascending, rests_from_placed, placed_from_rests, covers_from_test, test_from_covers}
 
 -- the four tests of a step
@@ -69,7 +69,7 @@ fault_from_step lang inst earlier s is =
 
 -- the nogood of one of the first i steps stands in the whole log
 pub nogood_at-take : (log : List StepView) (i r : ℕ) → r < i → nogood_at (take i log) r ≡ nogood_at log r
-nogood_at-take log i r before = ap (λ (s : StepView). s.nogood) (get_or-take i log r (record { ground = Ground.ByVariable 0; nogood = []; references = [] }) before)
+nogood_at-take log i r before = ap (λ (s : StepView). s.nogood) (get_or-take i log r no_step before)
 
 pub covered-take : (log : List StepView) (i : ℕ) (nogood : List Pair) (cases : List (List Pair)) (references : List ℕ) → All (λ r. r < i) references → covered (take i log) nogood cases references ≡ covered log nogood cases references
 covered-take log i nogood [] references before = refl
@@ -168,7 +168,7 @@ past_from_none : (lang : LanguageView) (inst : InstanceView) (log : List StepVie
 past_from_none lang inst log none zero within = none
 past_from_none lang inst log none (suc i) within =
     let before = past_from_none lang inst log none i (omega arith) in
-    let d : StepView = record { ground = Ground.ByVariable 0; nogood = []; references = [] } in
+    let d = no_step in
     let parts = nones i (step_fault lang inst (take i log) (get_or log i d)) (fault_from lang inst (take (i + 1) log) (drop (i + 1) log)) (sym (fault_from-at lang inst log i d (omega arith)) ∙ before) in
     rw (← add-one) parts.1
 
@@ -186,7 +186,7 @@ valid_from_fault lang inst log none =
 pub past_valid : (lang : LanguageView) (inst : InstanceView) (log : List StepView) (i : ℕ) → i ≤ length log → ((k : ℕ) (d : StepView) → k < i → IsValidStep lang inst (take k log) (get_or log k d)) → IsPast lang inst log i
 past_valid lang inst log zero within valid = past_none lang inst log
 past_valid lang inst log (suc i) within valid =
-    let d : StepView = record { ground = Ground.ByVariable 0; nogood = []; references = [] } in
+    let d = no_step in
     let before = past_valid lang inst log i (omega arith) (λ k d inside. valid k d (omega arith)) in
     rw (← add-one) (past_more lang inst log i d (omega arith) (fault_from_step lang inst (take i log) (get_or log i d) (valid i d (omega arith))) before)
 
@@ -217,7 +217,7 @@ first_at lang inst log fault zero i all before found =
       at_end = λ same. (sym (ap (λ (f : LogFaultView). f.why) ended.1), λ some empty. both_ways (ends_empty log) ended.0 (test_from_last log some empty));
     }
 first_at lang inst log fault (suc k) i all before found =
-    let d : StepView = record { ground = Ground.ByVariable 0; nogood = []; references = [] } in
+    let d = no_step in
     let s = get_or log i d in
     by (step_fault lang inst (take i log) s) refl (sym (fault_from-at lang inst log i d (omega arith)) ∙ found)
     (λ valid rest. first_at lang inst log fault k (i + 1) (omega arith) valid rest)
@@ -225,14 +225,14 @@ first_at lang inst log fault (suc k) i all before found =
     same_at : (d e : StepView) → get_or log i d ≡ get_or log i e
     same_at d e = get_or_default log i d e (omega arith)
 
-    by : (o : Option Why) → step_fault lang inst (take i log) (get_or log i (record { ground = Ground.ByVariable 0; nogood = []; references = [] })) ≡ o → after_step i o (fault_from lang inst (take (i + 1) log) (drop (i + 1) log)) ≡ Some fault
+    by : (o : Option Why) → step_fault lang inst (take i log) (get_or log i no_step) ≡ o → after_step i o (fault_from lang inst (take (i + 1) log) (drop (i + 1) log)) ≡ Some fault
         → (((j : ℕ) (d : StepView) → j < i + 1 → IsValidStep lang inst (take j log) (get_or log j d)) → fault_from lang inst (take (i + 1) log) (drop (i + 1) log) ≡ Some fault → IsFirstFault lang inst log fault) → IsFirstFault lang inst log fault
     by None is rest onwards = onwards (λ j d less. earlier j d less (cases_eq j i)) rest
       where
         earlier : (j : ℕ) (d : StepView) → j < i + 1 → (j ≡ i) ⊎ (j ≡ i → ⊥) → IsValidStep lang inst (take j log) (get_or log j d)
         earlier j d less (inl same) =
             subst (λ (m : ℕ). IsValidStep lang inst (take m log) (get_or log m d)) (sym same)
-            (step_from_fault lang inst (take i log) (get_or log i d) (ap (step_fault lang inst (take i log)) (same_at d (record { ground = Ground.ByVariable 0; nogood = []; references = [] })) ∙ is))
+            (step_from_fault lang inst (take i log) (get_or log i d) (ap (step_fault lang inst (take i log)) (same_at d no_step) ∙ is))
         earlier j d less (inr other) = before j d (omega arith)
     by (Some why) is here onwards =
         let same : record { step = i; why = why } ≡ fault = same_Some (record { step = i; why = why }) fault here in
@@ -242,7 +242,7 @@ first_at lang inst log fault (suc k) i all before found =
           within = omega arith;
           before = λ j d less. before j d (omega arith);
           at_step = λ inside d. subst (λ (m : ℕ). step_fault lang inst (take m log) (get_or log m d) ≡ Some fault.why) place
-              (ap (step_fault lang inst (take i log)) (same_at d (record { ground = Ground.ByVariable 0; nogood = []; references = [] })) ∙ (is ∙ ap (λ (w : Why). Some w) reason));
+              (ap (step_fault lang inst (take i log)) (same_at d no_step) ∙ (is ∙ ap (λ (w : Why). Some w) reason));
           at_end = λ end. absurd (omega arith);
         }
 

@@ -1,5 +1,5 @@
 -- What a maker of logs needs: valid steps from their parts, references one by one, and a log from its steps.
-use Rattle.std.proofs.Common.{◌≡◌, ◌≢◌, ℕ, ◌+◌, ◌-◌, ◌<◌, ◌≤◌, ◌⊎◌, inl, inr, Bool, true, false, cond, List, [], ◌∷◌, ◌++◌, length, map, filter, get_or, take, None, All, Contains, refl, sym, ap, ◌∙◌, subst, arith, append-nil}
+use Rattle.std.proofs.Common.{◌≡◌, ◌≢◌, ℕ, ◌+◌, ◌-◌, ◌<◌, ◌≤◌, ◌⊎◌, inl, inr, Bool, true, false, cond, List, [], ◌∷◌, ◌++◌, length, map, filter, get_or, take, None, All, Contains, refl, sym, ap, ◌∙◌, subst, arith, append-nil, length-append}
 use Rattle.std.proofs.lemmas.Bool.{cases_eq, cond-true, cond-false}
 use Rattle.std.proofs.lemmas.List.{length_push, get_or_push, get_or_append_left, take-append-le, take_at, take_all, map_push}
 use Rattle.std.proofs.lemmas.List.Elements.{All-nil, All-cons, All-push, All-head, All-tail, All-contains, All-contains_itself, Contains-append_left, Contains-append_right, filter_more}
@@ -8,8 +8,8 @@ use Rattle.std.proofs.lemmas.List.Kept.{AllPairs-cons}
 use Rattle.std.proofs.lemmas.List.Quantifiers.{all_pairs_push}
 use Rattle.pol_defs.specs.Relations.{LanguageView, rows_of}
 use Rattle.pol_defs.specs.Instances.{InstanceView, constraint_of}
-use Rattle.pol_defs.specs.Nogoods.{Pair, Ground, StepView, reading, is_case, value_case, nogood_at, log_fault, FitsMost}
-use Rattle.pol_defs.specs.ValidLogs.{PairsWithin, IsPair, IsNogood, row_cases, value_cases, HasReferences, IsValidStep, AreValid}
+use Rattle.pol_defs.specs.Nogoods.{Pair, StepView, reading, is_case, value_case, nogood_at, log_fault, FitsMost}
+use Rattle.pol_defs.specs.ValidLogs.{no_step, constraint_step_of, variable_step_of, breaking_log, PairsWithin, IsPair, IsNogood, row_cases, value_cases, cases_at, HasReferences, IsValidStep, AreValid}
 use Rattle.pol_defs.proofs.RelationLemmas.{AllPairs-nil}
 use Rattle.pol_defs.proofs.LogCases.{pair_at, reading_place}
 use Rattle.pol_defs.proofs.LogFaults.{fault_from_valid}
@@ -56,16 +56,6 @@ pub value_covers : (nogood : List Pair) (v a : ℕ) → PairsWithin (value_case 
 value_covers nogood v a = PairsWithin-right (value_case v a) nogood (value_case v a) (PairsWithin-itself (value_case v a))
 
 -- steps
-
-abbrev pub constraint_step_of : ℕ → List Pair → List ℕ → StepView
-constraint_step_of c nogood references = record { ground = Ground.ByConstraint c; nogood = nogood; references = references }
-
-abbrev pub variable_step_of : ℕ → List Pair → List ℕ → StepView
-variable_step_of v nogood references = record { ground = Ground.ByVariable v; nogood = nogood; references = references }
-
--- the rows that are cases of a step by the constraint
-abbrev pub cases_at : LanguageView → InstanceView → ℕ → List Pair → List (List Pair)
-cases_at lang inst c nogood = row_cases (constraint_of inst c).scope nogood (rows_of lang (constraint_of inst c).relation)
 
 -- by a constraint, with one reference for each case
 pub constraint_step : (lang : LanguageView) (inst : InstanceView) (earlier : List StepView) (c : ℕ) (nogood : List Pair) (references : List ℕ) → c < length inst.constraints → IsNogood (length inst.variables) lang.domain nogood → HasReferences earlier nogood (cases_at lang inst c nogood) references → IsValidStep lang inst earlier (constraint_step_of c nogood references)
@@ -154,10 +144,20 @@ value_referred earlier nogood v a references r referred known within =
 
 -- the nogood of a step stands where the log grows
 pub nogood_at-append : (log more : List StepView) (r : ℕ) → r < length log → nogood_at (log ++ more) r ≡ nogood_at log r
-nogood_at-append log more r known = ap (λ (s : StepView). s.nogood) (get_or_append_left log more (record { ground = Ground.ByVariable 0; nogood = []; references = [] }) r known)
+nogood_at-append log more r known = ap (λ (s : StepView). s.nogood) (get_or_append_left log more no_step r known)
+
+-- references stay right where the log grows
+pub referred_later : (earlier more : List StepView) (nogood : List Pair) (cases : List (List Pair)) (references : List ℕ) → HasReferences earlier nogood cases references → HasReferences (earlier ++ more) nogood cases references
+referred_later earlier more nogood cases references referred = record {
+  as_many = referred.as_many;
+  to_earlier = λ k d inside. omega (arith, referred.to_earlier k d inside, length-append earlier more);
+  contained = λ i inside.
+      let known : get_or references i 0 < length earlier = referred.to_earlier i 0 inside in
+      subst (λ (some : List Pair). PairsWithin some (nogood ++ get_or cases i [])) (sym (nogood_at-append earlier more (get_or references i 0) known)) (referred.contained i inside);
+}
 
 pub nogood_at-push : (log : List StepView) (s : StepView) → nogood_at (log ++ s ∷ []) (length log) ≡ s.nogood
-nogood_at-push log s = ap (λ (t : StepView). t.nogood) (get_or_push log s (record { ground = Ground.ByVariable 0; nogood = []; references = [] }) (length log) refl)
+nogood_at-push log s = ap (λ (t : StepView). t.nogood) (get_or_push log s no_step (length log) refl)
 
 pub valid_none : (lang : LanguageView) (inst : InstanceView) → AreValid lang inst []
 valid_none lang inst = λ i d inside. absurd (omega arith)
@@ -202,10 +202,6 @@ FitsMost-one most s few = record {
 }
 
 -- a constraint of an empty relation
-
--- the log of one step, that the constraint has no case
-abbrev pub breaking_log : ℕ → List StepView
-breaking_log c = constraint_step_of c [] [] ∷ []
 
 pub breaking_log-no_fault : (lang : LanguageView) (inst : InstanceView) (c : ℕ) → c < length inst.constraints → rows_of lang (constraint_of inst c).relation ≡ [] → log_fault lang inst (breaking_log c) ≡ None
 breaking_log-no_fault lang inst c known empty =

@@ -1,11 +1,11 @@
 -- A valid log refutes: one induction over its steps, for any sense in which a nogood can be held.
-use Rattle.std.proofs.Common.{◌≡◌, ℕ, zero, suc, ◌-◌, ◌<◌, ◌≤◌, List, [], length, get_or, take, None, All, sym, subst, arith}
+use Rattle.std.proofs.Common.{◌≡◌, ℕ, zero, suc, ◌-◌, ◌<◌, ◌≤◌, List, length, get_or, take, None, All, sym, subst, arith}
 use Rattle.std.proofs.lemmas.List.{length-take-le}
 use Rattle.std.proofs.lemmas.List.Elements.{All-nil, All-contains}
 use Rattle.pol_defs.specs.Relations.{LanguageView}
 use Rattle.pol_defs.specs.Instances.{InstanceView, IsSolution}
-use Rattle.pol_defs.specs.Nogoods.{Pair, Ground, StepView, Holds, IsRefuted, cases_of, nogood_at, log_fault}
-use Rattle.pol_defs.specs.ValidLogs.{PairsWithin, IsValidStep, AreValid, IsValidLog}
+use Rattle.pol_defs.specs.Nogoods.{Pair, StepView, Holds, IsRefuted, cases_of, nogood_at, log_fault}
+use Rattle.pol_defs.specs.ValidLogs.{no_step, PairsWithin, IsValidStep, AreValid, IsValidLog}
 use Rattle.pol_defs.proofs.LogCases.{HasHeldCase, solution_case}
 use Rattle.pol_defs.proofs.LogFaults.{nogood_at-take, valid_from_fault}
 
@@ -30,7 +30,7 @@ reference_held lang inst Held log i s within valid parts found earlier =
 refuted_below : (lang : LanguageView) (inst : InstanceView) (Held : List Pair → Type 0) (log : List StepView) → AreValid lang inst log → HoldsParts Held → HoldsCases lang inst Held log → (n : ℕ) → n ≤ length log → (i : ℕ) → i < n → Held (nogood_at log i) → ⊥
 refuted_below lang inst Held log valid parts cases zero within i below held = omega arith
 refuted_below lang inst Held log valid parts cases (suc n) within i below held =
-    let d : StepView = record { ground = Ground.ByVariable 0; nogood = []; references = [] } in
+    let d = no_step in
     reference_held lang inst Held log i (get_or log i d) (omega arith) (valid i d (omega arith)) parts (cases i d (omega arith) held)
     (λ r before. refuted_below lang inst Held log valid parts cases n (omega arith) r (omega arith))
 

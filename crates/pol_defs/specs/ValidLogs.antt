@@ -1,9 +1,27 @@
 -- Valid steps and logs, in the field's words, and how many nogoods there are.
-use Rattle.std.specs.Prelude.{◌≡◌, ◌≢◌, ℕ, zero, suc, ◌+◌, ◌-◌, ◌*◌, ◌<◌, ◌≤◌, List, [], ◌++◌, length, take, map, filter, slice_index, slice_index_or, All, AllPairs, Contains, Some}
+use Rattle.std.specs.Prelude.{◌≡◌, ◌≢◌, ℕ, zero, suc, ◌+◌, ◌-◌, ◌*◌, ◌<◌, ◌≤◌, List, [], ◌∷◌, ◌++◌, length, take, map, filter, slice_index, slice_index_or, All, AllPairs, Contains, Some}
 use Rattle.std.specs.List.{range_with_len}
-use Rattle.pol_defs.specs.Relations.{LanguageView}
-use Rattle.pol_defs.specs.Instances.{InstanceView}
+use Rattle.pol_defs.specs.Relations.{LanguageView, rows_of}
+use Rattle.pol_defs.specs.Instances.{InstanceView, constraint_of}
 use Rattle.pol_defs.specs.Nogoods.{Pair, Ground, StepView, reading, is_case, value_case, Why, LogFaultView, cases_of, nogood_at, step_fault}
+
+-- a step by its parts
+abbrev pub step_on : (ground : Ground) (nogood : List Pair) (references : List ℕ) → StepView
+step_on g nogood references = record { ground = g; nogood = nogood; references = references }
+
+abbrev pub constraint_step_of : ℕ → List Pair → List ℕ → StepView
+constraint_step_of c nogood references = step_on (Ground.ByConstraint c) nogood references
+
+abbrev pub variable_step_of : ℕ → List Pair → List ℕ → StepView
+variable_step_of v nogood references = step_on (Ground.ByVariable v) nogood references
+
+-- what stands at a number that the log does not have
+abbrev pub no_step : StepView
+no_step = variable_step_of 0 [] []
+
+-- the log of one step, that the constraint has no case
+abbrev pub breaking_log : ℕ → List StepView
+breaking_log c = constraint_step_of c [] [] ∷ []
 
 -- each pair of the first list is in the second
 abbrev pub PairsWithin : List Pair → List Pair → Type 0
@@ -28,6 +46,10 @@ CanRestOn inst nogood (Ground.ByVariable v) = (v < length inst.variables) × All
 abbrev pub row_cases : List ℕ → List Pair → List (List ℕ) → List (List Pair)
 row_cases scope nogood rows = map (reading scope) (filter (is_case scope nogood) rows)
 
+-- the cases of a step by the constraint
+abbrev pub cases_at : LanguageView → InstanceView → ℕ → List Pair → List (List Pair)
+cases_at lang inst c nogood = row_cases (constraint_of inst c).scope nogood (rows_of lang (constraint_of inst c).relation)
+
 -- the variable with each of the first values
 abbrev pub value_cases : ℕ → ℕ → List (List Pair)
 value_cases v count = map (value_case v) (range_with_len 0 count)
@@ -38,7 +60,7 @@ pub record HasReferences (earlier : List StepView) (nogood : List Pair) (cases :
   pub to_earlier : All (λ r. r < length earlier) references
   pub contained : (i : ℕ) → i < length references → PairsWithin (nogood_at earlier (slice_index references i)) (nogood ++ slice_index_or cases i [])
 
--- no assignment that meets the constraints and holds none of the earlier nogoods holds that of the step, by a look at its cases
+-- a step by a constraint or a variable that exists, each of whose cases joined with its nogood contains the nogood of an earlier step
 pub record IsValidStep (lang : LanguageView) (inst : InstanceView) (earlier : List StepView) (s : StepView) : Type 0 where
   pub rests : CanRestOn inst s.nogood s.ground
   pub is_nogood : IsNogood (length inst.variables) lang.domain s.nogood
