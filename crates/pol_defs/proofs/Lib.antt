@@ -19,3 +19,4 @@ pub mod LogSound
 pub mod LogMaking
 pub mod Counting
 pub mod Examples
+pub mod PrintedLines
