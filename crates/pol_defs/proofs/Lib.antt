@@ -20,3 +20,4 @@ pub mod LogMaking
 pub mod Counting
 pub mod Examples
 pub mod PrintedLines
+pub mod PrintedFiles
