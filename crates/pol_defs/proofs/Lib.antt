@@ -21,3 +21,5 @@ pub mod Counting
 pub mod Examples
 pub mod PrintedLines
 pub mod PrintedFiles
+pub mod PrintedEntries
+pub mod ReadAgain
