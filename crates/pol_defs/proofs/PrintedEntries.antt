@@ -1,28 +1,26 @@
 -- Each printed line of a file is accepted behind the lines before it, with the entry that it prints.
-use Rattle.std.proofs.Common.{◌≡◌, ◌≢◌, ℕ, zero, suc, inl, inr, ◌+◌, ◌-◌, ◌^◌, ◌<◌, ◌≤◌, Bool, true, false, ltb, leb, eqb, List, [], ◌∷◌, ◌++◌, length, map, get_or, Option, Some, None, Result, Ok, Err, All, AllPairs, Contains, refl, ap, sym, ◌∙◌, subst, arith, codes, decimal, append_assoc, length-append, add-one}
-use Rattle.std.specs.Bool.{Decides}
+use Rattle.std.proofs.Common.{◌≡◌, ◌≢◌, ℕ, zero, suc, inl, inr, ◌+◌, ◌-◌, ◌^◌, ◌<◌, ◌≤◌, Bool, true, false, leb, eqb, List, [], ◌∷◌, ◌++◌, length, map, get_or, Some, Ok, All, AllPairs, Contains, refl, ap, sym, ◌∙◌, subst, arith, codes, decimal, append_assoc, length-append}
 use Rattle.std.proofs.lemmas.Bool.{cases_Bool, lt-ltb, le-leb, eq-eqb}
-use Rattle.std.proofs.lemmas.List.{append-nil, get_or_append_left, get_or_at, get_or_push, get_or-map, length-map, length_push, map-id}
+use Rattle.std.proofs.lemmas.List.{append-nil, get_or_append_left, get_or_at, get_or_push, get_or-map, length-map}
 use Rattle.std.proofs.lemmas.List.Elements.{All-head, All-tail}
 use Rattle.pol_defs.specs.Tuples.{IsTuple, IsBefore}
 use Rattle.pol_defs.specs.Relations.{RelationView, LanguageView, no_relation, relation_of, last_of, name_of, names_of, is_same, is_among, place_in, has_name, has_row, with_row, with_row_at_last}
 use Rattle.pol_defs.specs.Instances.{ConstraintView, InstanceView, FitsAt}
-use Rattle.pol_defs.specs.Lines.{number_of, is_name}
+use Rattle.pol_defs.specs.Lines.{is_name}
 use Rattle.pol_defs.specs.Files.{FileView, weight_of, subset_weight_of, most_weight, no_instance, last_instance, with_constraint_at_last}
-use Rattle.pol_defs.specs.Grammar.{header_line, domain_line, begun_relation, relation_line, values_of, with_tuple, tuple_line, language_line, instance_names, names_of_tokens, instance_line, scope_of, with_scope, constraint_line, entry_line, begins_with}
-use Rattle.pol_defs.specs.Spelling.{constraint_tokens}
+use Rattle.pol_defs.specs.Grammar.{header_line, domain_line, begun_relation, relation_line, values_of, with_tuple, tuple_line, names_of_tokens, instance_line, scope_of, with_scope, constraint_line}
 use Rattle.pol_defs.proofs.OrderLemmas.{IsBefore-irrefl}
 use Rattle.pol_defs.proofs.RelationLemmas.{Named, is_same-decides, has_row-decides, has_name-decides, with_row-before, AllPairs-tail}
-use Rattle.pol_defs.proofs.PrintedLines.{number_of-digit}
+use Rattle.pol_defs.proofs.PrintedLines.{number_of-decimal}
 use Rattle.pol_defs.proofs.PrintedFiles.{tuple_tokens, constraint_line_tokens}
 
 -- ---- tests
 
-refused : (test : Bool) → (test ≡ true → ⊥) → test ≡ false
-refused test none = elim (cases_Bool test) [ inl e ↦ absurd (none e) | inr e ↦ e ]
+false_if_refuted : (test : Bool) → (test ≡ true → ⊥) → test ≡ false
+false_if_refuted test none = elim (cases_Bool test) [ inl e ↦ absurd (none e) | inr e ↦ e ]
 
 other-is_same : (xs ys : List ℕ) → xs ≢ ys → is_same xs ys ≡ false
-other-is_same xs ys other = refused (is_same xs ys) (λ e. other ((is_same-decides xs ys).0 e))
+other-is_same xs ys other = false_if_refuted (is_same xs ys) (λ e. other ((is_same-decides xs ys).0 e))
 
 same-is_same : (xs : List ℕ) → is_same xs xs ≡ true
 same-is_same xs = (is_same-decides xs xs).1 refl
@@ -68,7 +66,7 @@ place_in-distinct (xs ∷ lists) (suc i) fallback distinct inside =
     rw (other, rest) (ap (λ n. Some n) next)
 
 new-is_among : (before : List (List ℕ)) (t : List ℕ) → All (λ xs. xs ≢ t) before → is_among before t ≡ false
-new-is_among before t other = refused (is_among before t) (λ e. let inside = (has_row-decides before t).0 e in other inside.0 t inside.1 inside.2)
+new-is_among before t other = false_if_refuted (is_among before t) (λ e. let inside = (has_row-decides before t).0 e in other inside.0 t inside.1 inside.2)
 
 -- distinct names are read as they are
 pub names_of_tokens-distinct : (before names all : List (List ℕ)) → all ≡ before ++ names → All (λ name. is_name name ≡ true) names → AllPairs (λ x y. x ≢ y) all → names_of_tokens before names ≡ Ok all
@@ -87,7 +85,7 @@ header_line-accepts = refl
 
 pub domain_line-accepts : (d : ℕ) → 1 ≤ d → d ≤ 5 → domain_line (codes "domain" ∷ decimal d ∷ []) ≡ Ok d
 unfolding domain_line
-domain_line-accepts d some few = rw (number_of-digit d (omega arith), le-leb 1 d some, le-leb d 5 few) refl
+domain_line-accepts d some few = rw (number_of-decimal d (omega arith), le-leb 1 d some, le-leb d 5 few) refl
 
 -- ---- relations
 
@@ -102,16 +100,16 @@ named_rows d name arity rows = (name, record { domain = d; arity = arity; rows =
 pub relation_line-accepts : (d : ℕ) (done : List Named) (name : List ℕ) (arity : ℕ) → is_name name ≡ true → (Contains (map (λ e. e.0) done) name → ⊥) → 1 ≤ arity → arity ≤ 6 → length done < 32 → subset_weight_of d done + (2 ^ d - 1) ^ arity ≤ most_weight → relation_line (language_of d done) (codes "relation" ∷ name ∷ decimal arity ∷ []) ≡ Ok (language_of d (done ++ named_rows d name arity [] ∷ []))
 unfolding relation_line begun_relation
 relation_line-accepts d done name arity named new some few room subsets =
-    let unknown : has_name (language_of d done) name ≡ false = refused (has_name (language_of d done) name) (λ e. new ((has_name-decides (language_of d done) name).0 e)) in
-    rw (named, unknown, number_of-digit arity (omega arith), le-leb 1 arity some, le-leb arity 6 few, lt-ltb (length done) 32 room, le-leb (subset_weight_of d done + (2 ^ d - 1) ^ arity) most_weight subsets) refl
+    let unknown : has_name (language_of d done) name ≡ false = false_if_refuted (has_name (language_of d done) name) (λ e. new ((has_name-decides (language_of d done) name).0 e)) in
+    rw (named, unknown, number_of-decimal arity (omega arith), le-leb 1 arity some, le-leb arity 6 few, lt-ltb (length done) 32 room, le-leb (subset_weight_of d done + (2 ^ d - 1) ^ arity) most_weight subsets) refl
 
--- values below ten are read as they are
-pub values_of-digits : (d : ℕ) (values : List ℕ) → d ≤ 10 → All (λ v. v < d) values → values_of d (map decimal values) ≡ Ok values
-values_of-digits d [] few below = refl
-values_of-digits d (v ∷ values) few below =
+-- printed values are read as they are
+pub values_of-decimals : (d : ℕ) (values : List ℕ) → d ≤ 10 ^ 9 → All (λ v. v < d) values → values_of d (map decimal values) ≡ Ok values
+values_of-decimals d [] few below = refl
+values_of-decimals d (v ∷ values) few below =
     let small = All-head (λ w. w < d) v values below in
-    let rest = values_of-digits d values few (All-tail (λ w. w < d) v values below) in
-    rw (number_of-digit v (omega arith), lt-ltb v d small, rest) refl
+    let rest = values_of-decimals d values few (All-tail (λ w. w < d) v values below) in
+    rw (number_of-decimal v (omega arith), lt-ltb v d small, rest) refl
 
 -- a row behind all the others is the last
 pub with_row-last : (t : List ℕ) (front : List (List ℕ)) → All (λ row. IsBefore row t) front → with_row t front ≡ front ++ t ∷ []
@@ -120,7 +118,7 @@ with_row-last t (row ∷ front) before =
     with_row-before t row front (All-head (λ u. IsBefore u t) row front before) ∙ ap (λ rows. row ∷ rows) (with_row-last t front (All-tail (λ u. IsBefore u t) row front before))
 
 new-row : (t : List ℕ) (front : List (List ℕ)) → All (λ row. IsBefore row t) front → has_row front t ≡ false
-new-row t front before = refused (has_row front t) (λ e. let inside = (has_row-decides front t).0 e in IsBefore-irrefl t (subst (λ u. IsBefore u t) inside.2 (before inside.0 t inside.1)))
+new-row t front before = false_if_refuted (has_row front t) (λ e. let inside = (has_row-decides front t).0 e in IsBefore-irrefl t (subst (λ u. IsBefore u t) inside.2 (before inside.0 t inside.1)))
 
 with_row_at_last-push : (t : List ℕ) (done : List Named) (e : Named) → with_row_at_last t (done ++ e ∷ []) ≡ done ++ (e.0, record { domain = e.1.domain; arity = e.1.arity; rows = with_row t e.1.rows }) ∷ []
 with_row_at_last-push t [] e = refl
@@ -130,21 +128,21 @@ with_row_at_last-push t (f ∷ g ∷ done) e = ap (λ relations. f ∷ relations
 last_place : {X : Type 0} (done : List X) (x : X) → length (done ++ x ∷ []) - 1 ≡ length done
 last_place done x = omega (arith, length-append done (x ∷ []))
 
-last_of-push : (d : ℕ) (done : List Named) (e : Named) → last_of (language_of d (done ++ e ∷ [])) ≡ e.1
+pub last_of-push : (d : ℕ) (done : List Named) (e : Named) → last_of (language_of d (done ++ e ∷ [])) ≡ e.1
 last_of-push d done e = ap (λ n. relation_of (language_of d (done ++ e ∷ [])) n) (last_place done e) ∙ ap (λ f. f.1) (get_or_push done e ([], no_relation) (length done) refl)
 
 with_tuple-accepts : (lang : LanguageView) (t : List ℕ) (last : RelationView) (relations : List Named) → last_of lang ≡ last → has_row last.rows t ≡ false → length last.rows < 128 → with_row_at_last t lang.relations ≡ relations → weight_of 3 relations ≤ most_weight → with_tuple lang t ≡ Ok (language_of lang.domain relations)
 unfolding with_tuple
 with_tuple-accepts lang t last relations is_last new few next light = rw (is_last, new, lt-ltb (length last.rows) 128 few, next, le-leb (weight_of 3 relations) most_weight light) refl
 
-tuple_line-with : (lang : LanguageView) (t : List ℕ) (last : RelationView) → last_of lang ≡ last → IsTuple lang.domain last.arity t → lang.domain ≤ 10 → tuple_line lang (tuple_tokens t) ≡ with_tuple lang t
+tuple_line-with : (lang : LanguageView) (t : List ℕ) (last : RelationView) → last_of lang ≡ last → IsTuple lang.domain last.arity t → lang.domain ≤ 10 ^ 9 → tuple_line lang (tuple_tokens t) ≡ with_tuple lang t
 unfolding tuple_line
 tuple_line-with lang t last is_last tuple few =
     let long : suc (length (map decimal t)) - 1 ≡ last.arity = let same = tuple.long in omega (arith, length-map t decimal) in
-    let read = values_of-digits lang.domain t few tuple.below in
+    let read = values_of-decimals lang.domain t few tuple.below in
     rw (is_last, long, le-leb last.arity last.arity (omega arith), read) refl
 
-pub tuple_line-accepts : (d arity : ℕ) (done : List Named) (name : List ℕ) (front : List (List ℕ)) (t : List ℕ) → d ≤ 10 → IsTuple d arity t → All (λ row. IsBefore row t) front → length front < 128 → weight_of 3 (done ++ named_rows d name arity (front ++ t ∷ []) ∷ []) ≤ most_weight → tuple_line (language_of d (done ++ named_rows d name arity front ∷ [])) (tuple_tokens t) ≡ Ok (language_of d (done ++ named_rows d name arity (front ++ t ∷ []) ∷ []))
+pub tuple_line-accepts : (d arity : ℕ) (done : List Named) (name : List ℕ) (front : List (List ℕ)) (t : List ℕ) → d ≤ 10 ^ 9 → IsTuple d arity t → All (λ row. IsBefore row t) front → length front < 128 → weight_of 3 (done ++ named_rows d name arity (front ++ t ∷ []) ∷ []) ≤ most_weight → tuple_line (language_of d (done ++ named_rows d name arity front ∷ [])) (tuple_tokens t) ≡ Ok (language_of d (done ++ named_rows d name arity (front ++ t ∷ []) ∷ []))
 tuple_line-accepts d arity done name front t few tuple before room light =
     let e = named_rows d name arity front in
     let lang = language_of d (done ++ e ∷ []) in
@@ -158,7 +156,7 @@ pub instance_line-accepts : (lang : LanguageView) (done : List InstanceView) (na
 unfolding instance_line
 instance_line-accepts lang done name variables named new room some few names distinct =
     let long : leb 3 (suc (suc (length variables))) ≡ true = le-leb 3 (suc (suc (length variables))) (omega arith) in
-    let unknown : is_among (map (λ inst. inst.name) done) name ≡ false = refused (is_among (map (λ inst. inst.name) done) name) (λ e. new ((has_row-decides (map (λ inst. inst.name) done) name).0 e)) in
+    let unknown : is_among (map (λ inst. inst.name) done) name ≡ false = false_if_refuted (is_among (map (λ inst. inst.name) done) name) (λ e. new ((has_row-decides (map (λ inst. inst.name) done) name).0 e)) in
     let count : suc (suc (length variables)) - 2 ≡ length variables = omega arith in
     let read = names_of_tokens-distinct [] variables variables refl names distinct in
     rw (long, named, unknown, lt-ltb (length done) 8 room, count, le-leb (length variables) 40 few, read) refl
@@ -176,11 +174,11 @@ with_constraint_at_last-push c [] inst = refl
 with_constraint_at_last-push c (next ∷ []) inst = refl
 with_constraint_at_last-push c (next ∷ other ∷ done) inst = ap (λ instances. next ∷ instances) (with_constraint_at_last-push c (other ∷ done) inst)
 
-last_instance-push : (lang : LanguageView) (done : List InstanceView) (inst : InstanceView) → last_instance (record { language = lang; instances = done ++ inst ∷ [] }) ≡ inst
+pub last_instance-push : (lang : LanguageView) (done : List InstanceView) (inst : InstanceView) → last_instance (record { language = lang; instances = done ++ inst ∷ [] }) ≡ inst
 last_instance-push lang done inst = ap (λ n. get_or (done ++ inst ∷ []) n no_instance) (last_place done inst) ∙ get_or_push done inst no_instance (length done) refl
 
 -- the name of a relation of the language is read as its number
-place_in-names_of : (lang : LanguageView) (r : ℕ) → AllPairs (λ e f. e.0 ≢ f.0) lang.relations → r < length lang.relations → place_in (names_of lang) (name_of lang r) ≡ Some r
+pub place_in-names_of : (lang : LanguageView) (r : ℕ) → AllPairs (λ e f. e.0 ≢ f.0) lang.relations → r < length lang.relations → place_in (names_of lang) (name_of lang r) ≡ Some r
 place_in-names_of lang r distinct known =
     let inside : r < length (names_of lang) = omega (arith, length-map lang.relations (λ e. e.0)) in
     let name : get_or (names_of lang) r [] ≡ name_of lang r = get_or-map (λ e. e.0) lang.relations r ([], no_relation) [] known in

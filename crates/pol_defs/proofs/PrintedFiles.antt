@@ -1,21 +1,22 @@
 -- The canonical text of a file as its lines, each given by its tokens, which are printed.
-use Rattle.std.proofs.Common.{◌≡◌, ℕ, zero, suc, ◌+◌, ◌<◌, ◌≤◌, Bool, true, ◌&&◌, List, [], ◌∷◌, ◌++◌, length, map, flat_map, get_or, All, refl, ap, ap₂, sym, ◌∙◌, arith, codes, decimal, append_assoc}
+use Rattle.std.proofs.Common.{◌≡◌, ℕ, ◌^◌, ◌<◌, ◌≤◌, true, ◌&&◌, List, [], ◌∷◌, ◌++◌, length, map, flat_map, get_or, All, refl, ap, ap₂, sym, ◌∙◌, arith, codes, decimal, append_assoc}
 use Rattle.std.specs.List.{list_all}
 use Rattle.std.proofs.lemmas.Bool.{and_from}
 use Rattle.std.proofs.lemmas.List.{append-nil}
 use Rattle.std.proofs.lemmas.List.Elements.{All-nil, All-cons, All-head, All-tail, All-append, All-map}
 use Rattle.pol_defs.specs.Tuples.{IsTuple}
-use Rattle.pol_defs.specs.Relations.{RelationView, IsRelation, LanguageView, name_of}
-use Rattle.pol_defs.specs.Instances.{ConstraintView, InstanceView, FitsAt, Fits}
+use Rattle.pol_defs.specs.Relations.{IsRelation, LanguageView, name_of}
+use Rattle.pol_defs.specs.Instances.{ConstraintView, InstanceView, FitsAt}
 use Rattle.pol_defs.specs.Lines.{is_name}
 use Rattle.pol_defs.specs.Files.{FileView, IsFileLanguage, IsFileInstance, IsFile}
 use Rattle.pol_defs.specs.Texts.{spaced, spaced_texts, tuples_text, relation_text, relations_text, scope_text, constraints_text, instance_text, instances_text, file_text}
 use Rattle.pol_defs.specs.Spelling.{constraint_tokens, instance_lines}
 use Rattle.pol_defs.proofs.RelationLemmas.{Named}
-use Rattle.pol_defs.proofs.PrintedLines.{is_printed, is_printed-name, is_printed-digit, IsPrintedLine, line_front, printed_lines}
+use Rattle.pol_defs.proofs.PrintedLines.{is_printed, is_printed-name, is_printed-decimal, IsPrintedLine, line_front, printed_lines}
 
 -- ---- the lines
 
+-- the tokens of a tuple line
 abbrev pub tuple_tokens : List ℕ → List (List ℕ)
 tuple_tokens row = codes "tuple" ∷ map decimal row
 
@@ -23,6 +24,7 @@ tuple_tokens row = codes "tuple" ∷ map decimal row
 abbrev pub relation_lines : Named → List (List (List ℕ))
 relation_lines named = (codes "relation" ∷ named.0 ∷ decimal named.1.arity ∷ []) ∷ map tuple_tokens named.1.rows
 
+-- the tokens of a constraint line
 abbrev pub constraint_line_tokens : LanguageView → InstanceView → ConstraintView → List (List ℕ)
 constraint_line_tokens lang inst c = codes "constraint" ∷ constraint_tokens lang inst c
 
@@ -76,8 +78,8 @@ constraints_text-lines lang inst [] = refl
 constraints_text-lines lang inst (c ∷ rest) =
     newline (codes "constraint " ++ name_of lang c.relation ++ scope_text inst c.scope) (constraints_text lang inst rest)
     ∙ ap₂ (λ line behind. line ++ 10 ∷ behind)
-      (append_assoc (codes "constraint ") (name_of lang c.relation) (scope_text inst c.scope) ∙ ap (λ bytes. codes "constraint " ++ (name_of lang c.relation ++ bytes)) (scope-texts inst c.scope))
-      (constraints_text-lines lang inst rest)
+    (append_assoc (codes "constraint ") (name_of lang c.relation) (scope_text inst c.scope) ∙ ap (λ bytes. codes "constraint " ++ (name_of lang c.relation ++ bytes)) (scope-texts inst c.scope))
+    (constraints_text-lines lang inst rest)
 
 instance_text-lines : (lang : LanguageView) (inst : InstanceView) → instance_text lang inst ≡ printed_lines (instance_lines lang inst)
 instance_text-lines lang inst =
@@ -111,26 +113,26 @@ All-flat_map : {X Y : Type 0} (P : Y → Type 0) (f : X → List Y) (xs : List X
 All-flat_map P f [] all = All-nil P
 All-flat_map P f (x ∷ xs) all = All-append P (f x) (flat_map f xs) (All-head (λ y. All P (f y)) x xs all) (All-flat_map P f xs (All-tail (λ y. All P (f y)) x xs all))
 
-pub digits-printed : (row : List ℕ) → All (λ v. v < 10) row → list_all is_printed (map decimal row) ≡ true
-digits-printed [] small = refl
-digits-printed (v ∷ row) small =
-    and_from (is_printed (decimal v)) (list_all is_printed (map decimal row)) (is_printed-digit v (All-head (λ w. w < 10) v row small)) (digits-printed row (All-tail (λ w. w < 10) v row small))
+pub numbers-printed : (row : List ℕ) → All (λ v. v < 10 ^ 9) row → list_all is_printed (map decimal row) ≡ true
+numbers-printed [] small = refl
+numbers-printed (v ∷ row) small =
+    and_from (is_printed (decimal v)) (list_all is_printed (map decimal row)) (is_printed-decimal v (All-head (λ w. w < 10 ^ 9) v row small)) (numbers-printed row (All-tail (λ w. w < 10 ^ 9) v row small))
 
 pub names-printed : (names : List (List ℕ)) → All (λ name. is_name name ≡ true) names → list_all is_printed names ≡ true
 names-printed [] named = refl
 names-printed (name ∷ names) named =
     and_from (is_printed name) (list_all is_printed names) (is_printed-name name (All-head (λ x. is_name x ≡ true) name names named)) (names-printed names (All-tail (λ x. is_name x ≡ true) name names named))
 
-tuple-printed : (row : List ℕ) → All (λ v. v < 10) row → IsPrintedLine (tuple_tokens row)
-tuple-printed row small = record { printed = digits-printed row small; significant = refl }
+tuple-printed : (row : List ℕ) → All (λ v. v < 10 ^ 9) row → IsPrintedLine (tuple_tokens row)
+tuple-printed row small = record { printed = numbers-printed row small; significant = refl }
 
-few_values : (d n : ℕ) (row : List ℕ) → d ≤ 5 → IsTuple d n row → All (λ v. v < 10) row
+few_values : (d n : ℕ) (row : List ℕ) → d ≤ 5 → IsTuple d n row → All (λ v. v < 10 ^ 9) row
 few_values d n row few tuple = λ k fallback inside. let below = tuple.below k fallback inside in omega arith
 
 relation-printed : (named : Named) → is_name named.0 ≡ true → IsRelation named.1 → All IsPrintedLine (relation_lines named)
 relation-printed named name_is is =
-    let small : named.1.arity < 10 = let few = is.few_places in omega arith in
-    let first : list_all is_printed (named.0 ∷ decimal named.1.arity ∷ []) ≡ true = and_from (is_printed named.0) (is_printed (decimal named.1.arity) && true) (is_printed-name named.0 name_is) (and_from (is_printed (decimal named.1.arity)) true (is_printed-digit named.1.arity small) refl) in
+    let small : named.1.arity < 10 ^ 9 = let few = is.few_places in omega arith in
+    let first : list_all is_printed (named.0 ∷ decimal named.1.arity ∷ []) ≡ true = and_from (is_printed named.0) (is_printed (decimal named.1.arity) && true) (is_printed-name named.0 name_is) (and_from (is_printed (decimal named.1.arity)) true (is_printed-decimal named.1.arity small) refl) in
     All-cons IsPrintedLine (codes "relation" ∷ named.0 ∷ decimal named.1.arity ∷ []) (map tuple_tokens named.1.rows)
     (record { printed = first; significant = refl })
     (All-map IsPrintedLine tuple_tokens named.1.rows (λ k fallback inside. tuple-printed (get_or named.1.rows k fallback) (few_values named.1.domain named.1.arity (get_or named.1.rows k fallback) is.domain_is.few (is.tuples k fallback inside))))
@@ -157,9 +159,9 @@ entry_lines-printed file is =
 -- each line of the canonical text is printed
 pub file_lines-printed : (file : FileView) → IsFile file → All IsPrintedLine (file_lines file)
 file_lines-printed file is =
-    let small : file.language.domain < 10 = let few = is.language_is.is_language.domain_is.few in omega arith in
+    let small : file.language.domain < 10 ^ 9 = let few = is.language_is.is_language.domain_is.few in omega arith in
     let last : IsPrintedLine (codes "end" ∷ []) = record { printed = refl; significant = refl } in
-    let domain : IsPrintedLine (codes "domain" ∷ decimal file.language.domain ∷ []) = record { printed = and_from (is_printed (decimal file.language.domain)) true (is_printed-digit file.language.domain small) refl; significant = refl } in
+    let domain : IsPrintedLine (codes "domain" ∷ decimal file.language.domain ∷ []) = record { printed = and_from (is_printed (decimal file.language.domain)) true (is_printed-decimal file.language.domain small) refl; significant = refl } in
     All-cons IsPrintedLine (codes "polyanna" ∷ codes "1" ∷ []) ((codes "domain" ∷ decimal file.language.domain ∷ []) ∷ (entry_lines file ++ (codes "end" ∷ []) ∷ [])) (record { printed = refl; significant = refl })
     (All-cons IsPrintedLine (codes "domain" ∷ decimal file.language.domain ∷ []) (entry_lines file ++ (codes "end" ∷ []) ∷ []) domain
     (All-append IsPrintedLine (entry_lines file) ((codes "end" ∷ []) ∷ []) (entry_lines-printed file is) (All-cons IsPrintedLine (codes "end" ∷ []) [] last (All-nil IsPrintedLine))))

@@ -1,13 +1,15 @@
 -- The lines of a printed text, in which one space stands between tokens and an LF behind each line, and the tokens of each line.
-use Rattle.std.proofs.Common.{◌≡◌, ◌≢◌, ℕ, zero, suc, inl, inr, ◌+◌, ◌-◌, ◌*◌, ◌^◌, ◌<◌, ◌≤◌, Bool, true, false, not, eqb, leb, ◌&&◌, ◌||◌, List, [], ◌∷◌, ◌++◌, length, map, Option, Some, None, refl, ap, sym, ◌∙◌, arith, decimal, append_assoc, length-append}
+use Rattle.std.proofs.Common.{◌≡◌, ℕ, suc, inl, inr, ◌+◌, ◌-◌, ◌/◌, ◌%◌, ◌^◌, ◌<◌, ◌≤◌, Bool, true, false, not, eqb, leb, ◌&&◌, ◌||◌, List, [], ◌∷◌, ◌++◌, length, map, Some, refl, ap, ◌∙◌, arith, decimal, append_assoc, length-append}
 use Rattle.std.specs.List.{list_all, AllByRecursion}
-use Rattle.std.proofs.lemmas.Bool.{eq-eqb, ne_eqb, leb-true, le-leb, and_parts, and_from, or_cases, not-true, eqb-true}
-use Rattle.std.proofs.lemmas.List.{append-nil}
+use Rattle.std.proofs.lemmas.Bool.{ne_eqb, leb-true, le-leb, and_parts, and_from, or_cases, not-true, eqb-true}
+use Rattle.std.proofs.lemmas.List.{append-nil, map_push}
 use Rattle.std.proofs.lemmas.List.Folds.{list_all-append}
-use Rattle.std.proofs.lemmas.Fmt.{decimal_digit}
+use Rattle.std.proofs.lemmas.Fmt.{decimal_by_steps, decimal_nonempty, length-decimal-le}
+use Rattle.std.proofs.Math.Nat.{div-add-mod', mod-lt}
+use Rattle.pol_defs.specs.Tuples.{cell_of}
 use Rattle.pol_defs.specs.Texts.{spaced_texts}
-use Rattle.pol_defs.specs.Lines.{LineView, grown, lines_of, without_last, line_text, is_blank, begins_solid, tokens_of, is_significant, significant_among, is_digit, is_number, number_of, is_letter, is_name_byte, is_name}
-use Rattle.pol_defs.proofs.LineLemmas.{without_last-push}
+use Rattle.pol_defs.specs.Lines.{LineView, lines_of, without_last, line_text, is_blank, begins_solid, tokens_of, is_significant, significant_among, is_digit, number_of, is_letter, is_name_byte, is_name}
+use Rattle.pol_defs.proofs.LineLemmas.{without_last-push, cell_of-one_more}
 
 -- ---- bytes and tokens
 
@@ -225,16 +227,57 @@ pub length-lines_of-printed : (lines : List (List (List ℕ))) → AllByRecursio
 length-lines_of-printed [] printed = refl
 length-lines_of-printed (tokens ∷ lines) printed = ap length (lines_of-printed tokens (printed_lines lines) printed.0.printed) ∙ ap suc (length-lines_of-printed lines printed.1)
 
--- ---- digits
+-- ---- numbers
 
--- a number below ten is printed as its digit
-pub is_printed-digit : (n : ℕ) → n < 10 → is_printed (decimal n) ≡ true
-is_printed-digit n small = ap is_printed (decimal_digit n small) ∙ and_from (is_plain (48 + n)) true (plain-above (48 + n) (omega arith)) refl
+digit-above : (b : ℕ) → is_digit b ≡ true → 32 < b
+digit-above b digit = omega (arith, within 48 57 b digit)
 
--- and its digit is read as the number
-pub number_of-digit : (n : ℕ) → n < 10 → number_of (decimal n) ≡ Some n
-number_of-digit n small =
-    let low : leb 48 (48 + n) ≡ true = le-leb 48 (48 + n) (omega arith) in
-    let high : leb (48 + n) 57 ≡ true = le-leb (48 + n) 57 (omega arith) in
-    let value : (48 + n - 48) * 10 ^ 0 + 0 ≡ n = omega arith in
-    ap number_of (decimal_digit n small) ∙ rw (low, high, value) refl
+digits-plain : (ds : List ℕ) → list_all is_digit ds ≡ true → list_all is_plain ds ≡ true
+digits-plain [] digits = refl
+digits-plain (b ∷ ds) digits =
+    let parts = and_parts (is_digit b) (list_all is_digit ds) digits in
+    and_from (is_plain b) (list_all is_plain ds) (plain-above b (digit-above b parts.0)) (digits-plain ds parts.1)
+
+some_plain : (ds : List ℕ) → 0 < length ds → list_all is_plain ds ≡ true → is_printed ds ≡ true
+some_plain [] some plain = absurd (omega arith)
+some_plain (b ∷ ds) some plain = plain
+
+-- the digits write the number
+record WriteDigits (n : ℕ) (ds : List ℕ) : Type 0 where
+  digits : list_all is_digit ds ≡ true
+  value : cell_of 10 (map (λ b. b - 48) ds) ≡ n
+
+is_digit-digit : (n : ℕ) → n < 10 → is_digit (48 + n) ≡ true
+is_digit-digit n small = and_from (leb 48 (48 + n)) (leb (48 + n) 57) (le-leb 48 (48 + n) (omega arith)) (le-leb (48 + n) 57 (omega arith))
+
+one_digit : (n : ℕ) → n < 10 → WriteDigits n ((48 + n) ∷ [])
+one_digit n small = record { digits = and_from (is_digit (48 + n)) true (is_digit-digit n small) refl; value = omega arith }
+
+digit_more : (n : ℕ) (ds : List ℕ) → 10 ≤ n → WriteDigits (n / 10) ds → WriteDigits n (ds ++ (48 + n % 10) ∷ [])
+digit_more n ds large front =
+    let digit = 48 + n % 10 in
+    let small : n % 10 < 10 = mod-lt n {m = 10} (omega arith) in
+    let apart = ap (cell_of 10) (map_push (λ b. b - 48) ds digit) ∙ cell_of-one_more 10 (map (λ b. b - 48) ds) (digit - 48) in
+    let value = front.value in
+    let whole = div-add-mod' n 10 in
+    record {
+      digits = list_all-append is_digit ds (digit ∷ []) ∙ and_from (list_all is_digit ds) (is_digit digit && true) front.digits (and_from (is_digit digit) true (is_digit-digit (n % 10) small) refl);
+      value = apart ∙ rw value (omega (arith, whole));
+    }
+
+decimal-writes : (n : ℕ) → n < 10 ^ 9 → WriteDigits n (decimal n)
+decimal-writes n small = decimal_by_steps WriteDigits one_digit digit_more n (omega arith)
+
+-- a number is printed as a token
+pub is_printed-decimal : (n : ℕ) → n < 10 ^ 9 → is_printed (decimal n) ≡ true
+is_printed-decimal n small = some_plain (decimal n) (decimal_nonempty n (omega arith)) (digits-plain (decimal n) (decimal-writes n small).digits)
+
+-- and the token is read as the number
+pub number_of-decimal : (n : ℕ) → n < 10 ^ 9 → number_of (decimal n) ≡ Some n
+number_of-decimal n small =
+    let written = decimal-writes n small in
+    let some = le-leb 1 (length (decimal n)) (decimal_nonempty n (omega arith)) in
+    let few = le-leb (length (decimal n)) 9 (length-decimal-le 9 n (omega arith) small (omega arith)) in
+    let digits = written.digits in
+    let value = written.value in
+    rw (some, few, digits, value) refl

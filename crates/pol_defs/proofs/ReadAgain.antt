@@ -1,21 +1,20 @@
 -- The canonical text of a file is read again as the file.
-use Rattle.std.proofs.Common.{◌≡◌, ◌≢◌, ℕ, zero, suc, ◌+◌, ◌-◌, ◌^◌, ◌<◌, ◌≤◌, Bool, true, false, List, [], ◌∷◌, ◌++◌, length, map, flat_map, get_or, Result, Ok, Err, All, AllPairs, Contains, refl, ap, sym, ◌∙◌, subst, arith, codes, decimal, append_assoc, length-append}
+use Rattle.std.proofs.Common.{◌≡◌, ◌≢◌, ℕ, suc, ◌+◌, ◌-◌, ◌^◌, ◌<◌, ◌≤◌, true, false, List, [], ◌∷◌, ◌++◌, length, map, flat_map, get_or, Ok, All, AllPairs, Contains, refl, ap, sym, ◌∙◌, subst, arith, codes, decimal, append_assoc, length-append}
 use Rattle.std.proofs.Math.Nat.{pow-le-pow_left}
 use Rattle.std.proofs.lemmas.Bool.{lt-ltb}
 use Rattle.std.proofs.lemmas.List.{append-nil, get_or_at}
 use Rattle.std.proofs.lemmas.List.Elements.{All-head, All-tail, recursion_from_All}
 use Rattle.pol_defs.specs.Tuples.{IsTuple, IsBefore}
-use Rattle.pol_defs.specs.Relations.{RelationView, LanguageView, IsRelationOver}
+use Rattle.pol_defs.specs.Relations.{LanguageView, IsRelationOver}
 use Rattle.pol_defs.specs.Instances.{ConstraintView, InstanceView, FitsAt}
 use Rattle.pol_defs.specs.Lines.{LineView, lines_of, significant_among, is_name}
 use Rattle.pol_defs.specs.Files.{FileView, IsFileLanguage, IsFileInstance, IsFile, weight_of, subset_weight_of, most_weight, Parsed}
 use Rattle.pol_defs.specs.Texts.{file_text}
-use Rattle.pol_defs.specs.Grammar.{begins_with, header_line, domain_line, language_line, entry_line, end_line, rest_of_file, begun_file, file_from_domain, file_of, parse}
-use Rattle.pol_defs.specs.Refusals.{RefusalView}
+use Rattle.pol_defs.specs.Grammar.{begins_with, header_line, domain_line, language_line, entry_line, rest_of_file, begun_file, file_of, parse}
 use Rattle.pol_defs.specs.Spelling.{instance_lines}
 use Rattle.pol_defs.proofs.RelationLemmas.{Named}
 use Rattle.pol_defs.proofs.PrintedLines.{IsPrintedLine, line_front, printed_lines, views_of, significant_among-printed, length-lines_of-printed}
-use Rattle.pol_defs.proofs.PrintedFiles.{tuple_tokens, relation_lines, constraint_line_tokens, entry_lines, file_lines, file_text-lines, file_lines-printed}
+use Rattle.pol_defs.proofs.PrintedFiles.{tuple_tokens, relation_lines, constraint_line_tokens, entry_lines, file_text-lines, file_lines-printed}
 use Rattle.pol_defs.proofs.PrintedEntries.{AllPairs-before, distinct-new, header_line-accepts, domain_line-accepts, language_of, named_rows, relation_line-accepts, tuple_line-accepts, instance_line-accepts, instance_with, constraint_line-accepts}
 
 -- ---- lines that are read one behind another
@@ -97,7 +96,7 @@ relation_step d done named fits =
 some_relation : (done : List Named) (e : Named) → 0 < length (done ++ e ∷ [])
 some_relation done e = omega (arith, length-append done (e ∷ []))
 
-tuple_step : (d arity : ℕ) (done : List Named) (name : List ℕ) (front : List (List ℕ)) (t : List ℕ) → d ≤ 10 → IsTuple d arity t → All (λ row. IsBefore row t) front → length front < 128 → weight_of 3 (done ++ named_rows d name arity (front ++ t ∷ []) ∷ []) ≤ most_weight → IsStep (file_of_relations d (done ++ named_rows d name arity front ∷ [])) (tuple_tokens t) (file_of_relations d (done ++ named_rows d name arity (front ++ t ∷ []) ∷ []))
+tuple_step : (d arity : ℕ) (done : List Named) (name : List ℕ) (front : List (List ℕ)) (t : List ℕ) → d ≤ 10 ^ 9 → IsTuple d arity t → All (λ row. IsBefore row t) front → length front < 128 → weight_of 3 (done ++ named_rows d name arity (front ++ t ∷ []) ∷ []) ≤ most_weight → IsStep (file_of_relations d (done ++ named_rows d name arity front ∷ [])) (tuple_tokens t) (file_of_relations d (done ++ named_rows d name arity (front ++ t ∷ []) ∷ []))
 unfolding entry_line language_line
 tuple_step d arity done name front t few tuple before room light =
     let some = lt-ltb 0 (length (done ++ named_rows d name arity front ∷ [])) (some_relation done (named_rows d name arity front)) in
@@ -111,7 +110,7 @@ light_front d arity done name front rows shorter light =
     let apart = weight_of-append 3 done (named_rows d name arity front ∷ []) in
     omega (arith, apart)
 
-tuples_read : (d arity : ℕ) (done : List Named) (name : List ℕ) (front rows all : List (List ℕ)) → all ≡ front ++ rows → d ≤ 10 → All (IsTuple d arity) rows → AllPairs IsBefore all → length all ≤ 128 → weight_of 3 done + length all ^ 3 ≤ most_weight → Reads (file_of_relations d (done ++ named_rows d name arity front ∷ [])) (map tuple_tokens rows) (file_of_relations d (done ++ named_rows d name arity all ∷ []))
+tuples_read : (d arity : ℕ) (done : List Named) (name : List ℕ) (front rows all : List (List ℕ)) → all ≡ front ++ rows → d ≤ 10 ^ 9 → All (IsTuple d arity) rows → AllPairs IsBefore all → length all ≤ 128 → weight_of 3 done + length all ^ 3 ≤ most_weight → Reads (file_of_relations d (done ++ named_rows d name arity front ∷ [])) (map tuple_tokens rows) (file_of_relations d (done ++ named_rows d name arity all ∷ []))
 tuples_read d arity done name front [] all same few tuples ascending room light = ap (λ rows. file_of_relations d (done ++ named_rows d name arity rows ∷ [])) (sym (same ∙ append-nil front))
 tuples_read d arity done name front (t ∷ rows) all same few tuples ascending room light =
     let long : length all ≡ length front + suc (length rows) = ap length same ∙ length-append front (t ∷ rows) in
