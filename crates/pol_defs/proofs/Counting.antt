@@ -6,7 +6,7 @@ use Rattle.std.proofs.lemmas.List.{length-map, get_or-map}
 use Rattle.std.proofs.lemmas.List.Elements.{All-nil, All-cons, All-head, All-tail, All-map, All-weaker, Contains-append_left, Contains-append_right}
 use Rattle.pol_defs.specs.Relations.{LanguageView}
 use Rattle.pol_defs.specs.Instances.{InstanceView}
-use Rattle.pol_defs.specs.Nogoods.{Pair, Ground, StepView, FitsMost}
+use Rattle.pol_defs.specs.Nogoods.{Pair, Basis, StepView, FitsMost}
 use Rattle.pol_defs.specs.ValidLogs.{IsPair, IsNogood, AreValid, nogood_count}
 use Rattle.pol_defs.proofs.RelationLemmas.{Contains-here, AllPairs-head, AllPairs-tail}
 use Rattle.pol_defs.proofs.MemberLemmas.{in_map, no_longer}
@@ -110,7 +110,7 @@ nogoods_of log = map (λ (s : StepView). s.nogood) log
 
 different_nogoods : (log : List StepView) → AllPairs (λ s t. s.nogood ≢ t.nogood) log → AllPairs (λ x y. x ≢ y) (nogoods_of log)
 different_nogoods log different = λ i j d less inside same.
-    let unknown : StepView = record { ground = Ground.ByVariable 0; nogood = d; references = [] } in
+    let unknown : StepView = record { basis = Basis.ByVariable 0; nogood = d; references = [] } in
     let within : j < length log = omega (arith, length-map log (λ (s : StepView). s.nogood)) in
     different i j unknown less within (sym (get_or-map (λ (s : StepView). s.nogood) log i unknown d (omega arith)) ∙ (same ∙ get_or-map (λ (s : StepView). s.nogood) log j unknown d within))
 

@@ -7,7 +7,7 @@ use Rattle.std.proofs.lemmas.List.Elements.{All-nil, All-cons, All-append, All-c
 use Rattle.std.proofs.lemmas.List.FromFn.{length-map-range_with_len, get_or-map-range_with_len}
 use Rattle.pol_defs.specs.Relations.{LanguageView, rows_of}
 use Rattle.pol_defs.specs.Instances.{InstanceView, IsSolution, constraint_of, no_constraint, read_at}
-use Rattle.pol_defs.specs.Nogoods.{Pair, Ground, Holds, compatible, reading, is_case, value_case, cases_of}
+use Rattle.pol_defs.specs.Nogoods.{Pair, Basis, Holds, compatible, reading, is_case, value_case, cases_of}
 use Rattle.pol_defs.specs.ValidLogs.{CanRestOn}
 use Rattle.pol_defs.proofs.LogLemmas.{All-from_list_all, list_all-from_All}
 use Rattle.pol_defs.proofs.MemberLemmas.{in_map, in_filter}
@@ -132,7 +132,7 @@ case_held assignment scope nogood holds =
     test_from_case scope nogood row (λ k d inside. agree_held assignment (reading scope row ++ nogood) (get_or (reading scope row) k d) (read k d inside) all)
 
 -- a row that is read is one of the cases
-pub row_in_cases : (lang : LanguageView) (inst : InstanceView) (c : ℕ) (nogood : List Pair) (row : List ℕ) → Contains (rows_of lang (constraint_of inst c).relation) row → is_case (constraint_of inst c).scope nogood row ≡ true → Contains (cases_of lang inst (Ground.ByConstraint c) nogood) (reading (constraint_of inst c).scope row)
+pub row_in_cases : (lang : LanguageView) (inst : InstanceView) (c : ℕ) (nogood : List Pair) (row : List ℕ) → Contains (rows_of lang (constraint_of inst c).relation) row → is_case (constraint_of inst c).scope nogood row ≡ true → Contains (cases_of lang inst (Basis.ByConstraint c) nogood) (reading (constraint_of inst c).scope row)
 row_in_cases lang inst c nogood row inside is =
     let scope = (constraint_of inst c).scope in
     let rows = rows_of lang (constraint_of inst c).relation in
@@ -152,14 +152,14 @@ held_case Held nogood cases one inside held = record {
 }
 
 -- a solution that holds the nogood of a step holds one of its cases
-pub solution_case : (lang : LanguageView) (inst : InstanceView) (assignment : List ℕ) (nogood : List Pair) (g : Ground) → IsSolution lang inst assignment → CanRestOn inst nogood g → Holds assignment nogood → HasHeldCase (Holds assignment) nogood (cases_of lang inst g nogood)
-solution_case lang inst assignment nogood (Ground.ByConstraint c) solution known holds =
+pub solution_case : (lang : LanguageView) (inst : InstanceView) (assignment : List ℕ) (nogood : List Pair) (g : Basis) → IsSolution lang inst assignment → CanRestOn inst nogood g → Holds assignment nogood → HasHeldCase (Holds assignment) nogood (cases_of lang inst g nogood)
+solution_case lang inst assignment nogood (Basis.ByConstraint c) solution known holds =
     let scope = (constraint_of inst c).scope in
     let one = reading scope (read_at assignment scope) in
-    held_case (Holds assignment) nogood (cases_of lang inst (Ground.ByConstraint c) nogood) one
+    held_case (Holds assignment) nogood (cases_of lang inst (Basis.ByConstraint c) nogood) one
     (row_in_cases lang inst c nogood (read_at assignment scope) (solution.meets c no_constraint known) (case_held assignment scope nogood holds))
     (All-append (λ (p : Pair). get_or assignment p.variable 0 ≡ p.value) nogood one holds (holds_reading assignment scope))
-solution_case lang inst assignment nogood (Ground.ByVariable v) solution known holds =
+solution_case lang inst assignment nogood (Basis.ByVariable v) solution known holds =
     let value = get_or assignment v 0 in
     let below : value < lang.domain = solution.assigns.below v 0 (omega (arith, solution.assigns.long, known.0)) in
     let place = get_or-map-range_with_len (value_case v) 0 lang.domain value value [] below (omega arith) in

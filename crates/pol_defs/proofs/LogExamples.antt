@@ -2,7 +2,7 @@
 use Rattle.std.specs.Prelude.{◌≡◌, ℕ, List, [], ◌∷◌, ◌++◌, Some, None, Option, codes, refl}
 use Rattle.pol_defs.specs.Relations.{LanguageView}
 use Rattle.pol_defs.specs.Instances.{InstanceView}
-use Rattle.pol_defs.specs.Nogoods.{Pair, Ground, StepView, LogFaultView, Why, log_fault}
+use Rattle.pol_defs.specs.Nogoods.{Pair, Basis, StepView, LogFaultView, Why, log_fault}
 
 abbrev unequal : LanguageView
 unequal = record { domain = 2; relations = (codes "neq", record { domain = 2; arity = 2; rows = (0 ∷ 1 ∷ []) ∷ (1 ∷ 0 ∷ []) ∷ [] }) ∷ [] }
@@ -14,10 +14,10 @@ abbrev pair : ℕ → ℕ → Pair
 pair x a = record { variable = x; value = a }
 
 abbrev by_constraint : ℕ → List Pair → List ℕ → StepView
-by_constraint c nogood references = record { ground = Ground.ByConstraint c; nogood = nogood; references = references }
+by_constraint c nogood references = record { basis = Basis.ByConstraint c; nogood = nogood; references = references }
 
 abbrev by_variable : ℕ → List Pair → List ℕ → StepView
-by_variable v nogood references = record { ground = Ground.ByVariable v; nogood = nogood; references = references }
+by_variable v nogood references = record { basis = Basis.ByVariable v; nogood = nogood; references = references }
 
 -- each constraint refutes two equal values of its variables
 abbrev equal_values : List StepView

@@ -7,7 +7,7 @@ use Rattle.std.proofs.lemmas.List.Elements.{All-head, All-tail}
 use Rattle.std.proofs.lemmas.Option.{none-some, same_Some}
 use Rattle.pol_defs.specs.Relations.{LanguageView}
 use Rattle.pol_defs.specs.Instances.{InstanceView}
-use Rattle.pol_defs.specs.Nogoods.{Pair, StepView, Why, LogFaultView, cases_of, contained_in, ground_placed, pairs_placed, ascending_pairs, is_placed, nogood_at, covered, fault_unless, step_fault, is_empty, ends_empty, after_step, end_fault, fault_from, log_fault}
+use Rattle.pol_defs.specs.Nogoods.{Pair, StepView, Why, LogFaultView, cases_of, contained_in, basis_placed, pairs_placed, ascending_pairs, is_placed, nogood_at, covered, fault_unless, step_fault, is_empty, ends_empty, after_step, end_fault, fault_from, log_fault}
 use Rattle.pol_defs.specs.ValidLogs.{no_step, IsValidStep, IsValidLog, IsFirstFault}
 use Rattle.pol_defs.proofs.LogLemmas.{All-from_list_all, list_all-from_All, pairs_from_placed, placed_from_pairs, ascending_from_test, test_from_ascending, rests_from_placed, placed_from_rests, covers_from_test, test_from_covers}
 
@@ -37,13 +37,13 @@ none_from_passes placed known covers many first second third fourth = rw (first,
 pub step_from_fault : (lang : LanguageView) (inst : InstanceView) (earlier : List StepView) (s : StepView) → step_fault lang inst earlier s ≡ None → IsValidStep lang inst earlier s
 step_from_fault lang inst earlier s none =
     let n = length inst.variables in
-    let cases = cases_of lang inst s.ground s.nogood in
+    let cases = cases_of lang inst s.basis s.nogood in
     let passes = passes_from_none (is_placed lang inst s) (list_all (λ r. ltb r (length earlier)) s.references) (covered earlier s.nogood cases s.references) (eqb (length s.references) (length cases)) none in
-    let placed = and_parts (ground_placed inst s.ground s.nogood && pairs_placed n lang.domain s.nogood) (ascending_pairs s.nogood) passes.all_placed in
-    let first = and_parts (ground_placed inst s.ground s.nogood) (pairs_placed n lang.domain s.nogood) placed.0 in
+    let placed = and_parts (basis_placed inst s.basis s.nogood && pairs_placed n lang.domain s.nogood) (ascending_pairs s.nogood) passes.all_placed in
+    let first = and_parts (basis_placed inst s.basis s.nogood) (pairs_placed n lang.domain s.nogood) placed.0 in
     let many : length s.references ≡ length cases = eqb-true (length s.references) (length cases) passes.as_many in
     record {
-      rests = rests_from_placed inst s.nogood s.ground first.0;
+      rests = rests_from_placed inst s.nogood s.basis first.0;
       is_nogood = record { pairs = pairs_from_placed n lang.domain s.nogood first.1; ascending = ascending_from_test s.nogood placed.1 };
       referred = record {
         as_many = many;
@@ -56,9 +56,9 @@ step_from_fault lang inst earlier s none =
 pub fault_from_step : (lang : LanguageView) (inst : InstanceView) (earlier : List StepView) (s : StepView) → IsValidStep lang inst earlier s → step_fault lang inst earlier s ≡ None
 fault_from_step lang inst earlier s is =
     let n = length inst.variables in
-    let cases = cases_of lang inst s.ground s.nogood in
-    let first = and_from (ground_placed inst s.ground s.nogood) (pairs_placed n lang.domain s.nogood) (placed_from_rests inst s.nogood s.ground is.rests) (placed_from_pairs n lang.domain s.nogood is.is_nogood.pairs) in
-    let placed = and_from (ground_placed inst s.ground s.nogood && pairs_placed n lang.domain s.nogood) (ascending_pairs s.nogood) first (test_from_ascending s.nogood is.is_nogood.ascending) in
+    let cases = cases_of lang inst s.basis s.nogood in
+    let first = and_from (basis_placed inst s.basis s.nogood) (pairs_placed n lang.domain s.nogood) (placed_from_rests inst s.nogood s.basis is.rests) (placed_from_pairs n lang.domain s.nogood is.is_nogood.pairs) in
+    let placed = and_from (basis_placed inst s.basis s.nogood && pairs_placed n lang.domain s.nogood) (ascending_pairs s.nogood) first (test_from_ascending s.nogood is.is_nogood.ascending) in
     none_from_passes (is_placed lang inst s) (list_all (λ r. ltb r (length earlier)) s.references) (covered earlier s.nogood cases s.references) (eqb (length s.references) (length cases))
     placed
     (list_all-from_All (λ r. ltb r (length earlier)) (λ r. r < length earlier) (λ r. lt-ltb r (length earlier)) s.references is.referred.to_earlier)
@@ -80,18 +80,18 @@ covered-take log i nogood (one ∷ cases) (r ∷ references) before =
     ap (λ b. contained_in (nogood_at (take i log) r) (nogood ++ one) && b) rest ∙ ap (λ one_nogood. contained_in one_nogood (nogood ++ one) && covered log nogood cases references) same
 
 -- what `step_fault` says of a step behind the first i, by look-ups in the whole log
-pub step_fault-take : (lang : LanguageView) (inst : InstanceView) (log : List StepView) (i : ℕ) (s : StepView) → i ≤ length log → step_fault lang inst (take i log) s ≡ tested (is_placed lang inst s) (list_all (λ r. ltb r i) s.references) (covered log s.nogood (cases_of lang inst s.ground s.nogood) s.references) (eqb (length s.references) (length (cases_of lang inst s.ground s.nogood)))
+pub step_fault-take : (lang : LanguageView) (inst : InstanceView) (log : List StepView) (i : ℕ) (s : StepView) → i ≤ length log → step_fault lang inst (take i log) s ≡ tested (is_placed lang inst s) (list_all (λ r. ltb r i) s.references) (covered log s.nogood (cases_of lang inst s.basis s.nogood) s.references) (eqb (length s.references) (length (cases_of lang inst s.basis s.nogood)))
 step_fault-take lang inst log i s within =
-    let cases = cases_of lang inst s.ground s.nogood in
+    let cases = cases_of lang inst s.basis s.nogood in
     let many = eqb (length s.references) (length cases) in
     ap (λ n. tested (is_placed lang inst s) (list_all (λ r. ltb r n) s.references) (covered (take i log) s.nogood cases s.references) many) (length-take-le i log within)
     ∙ by (list_all (λ r. ltb r i) s.references) refl
   where
-    by : (known : Bool) → list_all (λ r. ltb r i) s.references ≡ known → tested (is_placed lang inst s) known (covered (take i log) s.nogood (cases_of lang inst s.ground s.nogood) s.references) (eqb (length s.references) (length (cases_of lang inst s.ground s.nogood))) ≡ tested (is_placed lang inst s) known (covered log s.nogood (cases_of lang inst s.ground s.nogood) s.references) (eqb (length s.references) (length (cases_of lang inst s.ground s.nogood)))
+    by : (known : Bool) → list_all (λ r. ltb r i) s.references ≡ known → tested (is_placed lang inst s) known (covered (take i log) s.nogood (cases_of lang inst s.basis s.nogood) s.references) (eqb (length s.references) (length (cases_of lang inst s.basis s.nogood))) ≡ tested (is_placed lang inst s) known (covered log s.nogood (cases_of lang inst s.basis s.nogood) s.references) (eqb (length s.references) (length (cases_of lang inst s.basis s.nogood)))
     by false fails = refl
     by true passes =
         let before = All-from_list_all (λ r. ltb r i) (λ r. r < i) (λ r. ltb-true r i) s.references passes in
-        ap (λ covers. tested (is_placed lang inst s) true covers (eqb (length s.references) (length (cases_of lang inst s.ground s.nogood)))) (covered-take log i s.nogood (cases_of lang inst s.ground s.nogood) s.references before)
+        ap (λ covers. tested (is_placed lang inst s) true covers (eqb (length s.references) (length (cases_of lang inst s.basis s.nogood)))) (covered-take log i s.nogood (cases_of lang inst s.basis s.nogood) s.references before)
 
 -- behind a step without a fault the first fault is that of the rest
 pub fault_from-passed : (lang : LanguageView) (inst : InstanceView) (earlier : List StepView) (s : StepView) (rest : List StepView) → step_fault lang inst earlier s ≡ None → fault_from lang inst earlier (s ∷ rest) ≡ fault_from lang inst (earlier ++ s ∷ []) rest

@@ -7,7 +7,7 @@ use Rattle.std.proofs.lemmas.List.Folds.{Any-from_list_any, list_any_at, list_an
 use Rattle.std.proofs.lemmas.List.Kept.{AllPairs-cons}
 use Rattle.std.proofs.lemmas.List.Sums.{AllPass-from_list_all, list_all-from_AllPass}
 use Rattle.pol_defs.specs.Instances.{InstanceView}
-use Rattle.pol_defs.specs.Nogoods.{Pair, Ground, StepView, same_pair, contained_in, ground_placed, pairs_placed, ascending_pairs, nogood_at, covered}
+use Rattle.pol_defs.specs.Nogoods.{Pair, Basis, StepView, same_pair, contained_in, basis_placed, pairs_placed, ascending_pairs, nogood_at, covered}
 use Rattle.pol_defs.specs.ValidLogs.{PairsWithin, IsPair, CanRestOn}
 use Rattle.pol_defs.proofs.RelationLemmas.{AllPairs-nil, AllPairs-head, AllPairs-tail}
 
@@ -45,7 +45,7 @@ within_from_contained_in pairs others passes = All-from_list_all (λ p. list_any
 pub contained_in_from_within : (pairs others : List Pair) → PairsWithin pairs others → contained_in pairs others ≡ true
 contained_in_from_within pairs others within = list_all-from_All (λ p. list_any (λ q. same_pair p q) others) (Contains others) (among_is others) pairs within
 
--- nogoods and grounds that are placed right
+-- nogoods and basiss that are placed right
 
 pair_from_test : (n d : ℕ) (p : Pair) → (ltb p.variable n && ltb p.value d) ≡ true → IsPair n d p
 pair_from_test n d p passes =
@@ -88,15 +88,15 @@ not_named v nogood fails = λ k d inside same. both_ways (list_any (λ p. eqb p.
 named_nowhere : (v : ℕ) (nogood : List Pair) → All (λ p. p.variable ≢ v) nogood → list_any (λ p. eqb p.variable v) nogood ≡ false
 named_nowhere v nogood apart = list_any_none (λ p. eqb p.variable v) nogood (λ k d inside. ne_eqb (get_or nogood k d).variable v (apart k d inside))
 
-pub rests_from_placed : (inst : InstanceView) (nogood : List Pair) (g : Ground) → ground_placed inst g nogood ≡ true → CanRestOn inst nogood g
-rests_from_placed inst nogood (Ground.ByConstraint c) passes = ltb-true c (length inst.constraints) passes
-rests_from_placed inst nogood (Ground.ByVariable v) passes =
+pub rests_from_placed : (inst : InstanceView) (nogood : List Pair) (g : Basis) → basis_placed inst g nogood ≡ true → CanRestOn inst nogood g
+rests_from_placed inst nogood (Basis.ByConstraint c) passes = ltb-true c (length inst.constraints) passes
+rests_from_placed inst nogood (Basis.ByVariable v) passes =
     let parts = and_parts (ltb v (length inst.variables)) (not (list_any (λ p. eqb p.variable v) nogood)) passes in
     (ltb-true v (length inst.variables) parts.0, not_named v nogood (not-true (list_any (λ p. eqb p.variable v) nogood) parts.1))
 
-pub placed_from_rests : (inst : InstanceView) (nogood : List Pair) (g : Ground) → CanRestOn inst nogood g → ground_placed inst g nogood ≡ true
-placed_from_rests inst nogood (Ground.ByConstraint c) known = lt-ltb c (length inst.constraints) known
-placed_from_rests inst nogood (Ground.ByVariable v) known =
+pub placed_from_rests : (inst : InstanceView) (nogood : List Pair) (g : Basis) → CanRestOn inst nogood g → basis_placed inst g nogood ≡ true
+placed_from_rests inst nogood (Basis.ByConstraint c) known = lt-ltb c (length inst.constraints) known
+placed_from_rests inst nogood (Basis.ByVariable v) known =
     and_from (ltb v (length inst.variables)) (not (list_any (λ p. eqb p.variable v) nogood)) (lt-ltb v (length inst.variables) known.0) (not_from_false (list_any (λ p. eqb p.variable v) nogood) (named_nowhere v nogood known.1))
 
 -- references that are covered, place by place

@@ -15,11 +15,11 @@ HoldsParts Held = (some pairs : List Pair) → PairsWithin some pairs → Held p
 
 -- where the nogood of a step is held, so is the nogood joined with one of its cases
 abbrev pub HoldsCases : LanguageView → InstanceView → (List Pair → Type 0) → List StepView → Type 0
-HoldsCases lang inst Held log = All (λ s. Held s.nogood → HasHeldCase Held s.nogood (cases_of lang inst s.ground s.nogood)) log
+HoldsCases lang inst Held log = All (λ s. Held s.nogood → HasHeldCase Held s.nogood (cases_of lang inst s.basis s.nogood)) log
 
 -- what a held case says of the reference that stands for it
 reference_held : (lang : LanguageView) (inst : InstanceView) (Held : List Pair → Type 0) (log : List StepView) (i : ℕ) (s : StepView) → i ≤ length log → IsValidStep lang inst (take i log) s → HoldsParts Held
-    → HasHeldCase Held s.nogood (cases_of lang inst s.ground s.nogood) → ((r : ℕ) → r < i → Held (nogood_at log r) → ⊥) → ⊥
+    → HasHeldCase Held s.nogood (cases_of lang inst s.basis s.nogood) → ((r : ℕ) → r < i → Held (nogood_at log r) → ⊥) → ⊥
 reference_held lang inst Held log i s within valid parts found earlier =
     let r = get_or s.references found.number 0 in
     let inside : found.number < length s.references = omega (arith, found.within, valid.referred.as_many) in
@@ -42,7 +42,7 @@ pub Holds-parts : (assignment : List ℕ) → HoldsParts (Holds assignment)
 Holds-parts assignment some pairs within holds = λ k d inside. All-contains (λ (p : Pair). get_or assignment p.variable 0 ≡ p.value) pairs (get_or some k d) holds (within k d inside)
 
 pub solution_cases : (lang : LanguageView) (inst : InstanceView) (assignment : List ℕ) (log : List StepView) → IsSolution lang inst assignment → AreValid lang inst log → HoldsCases lang inst (Holds assignment) log
-solution_cases lang inst assignment log solution valid = λ i d inside holds. solution_case lang inst assignment (get_or log i d).nogood (get_or log i d).ground solution (valid i d inside).rests holds
+solution_cases lang inst assignment log solution valid = λ i d inside holds. solution_case lang inst assignment (get_or log i d).nogood (get_or log i d).basis solution (valid i d inside).rests holds
 
 -- a solution holds no nogood of valid steps
 pub steps_sound : (lang : LanguageView) (inst : InstanceView) (log : List StepView) → AreValid lang inst log → (i : ℕ) → i < length log → IsRefuted lang inst (nogood_at log i)

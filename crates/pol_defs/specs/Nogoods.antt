@@ -29,13 +29,13 @@ abbrev pub compatible : Pair → Pair → Bool
 compatible p q = not (p.variable == q.variable) || p.value == q.value
 
 -- what a step rests on: a constraint of the instance, or the values of a variable
-pub data Ground : Type 0 where
-  ByConstraint : ℕ → Ground
-  ByVariable : ℕ → Ground
+pub data Basis : Type 0 where
+  ByConstraint : ℕ → Basis
+  ByVariable : ℕ → Basis
 
--- a step: its ground, its nogood, and the numbers of earlier steps, one for each case
+-- a step: its basis, its nogood, and the numbers of earlier steps, one for each case
 pub record StepView : Type 0 where
-  pub ground : Ground
+  pub basis : Basis
   pub nogood : List Pair
   pub references : List ℕ
 
@@ -54,9 +54,9 @@ abbrev pub value_case : ℕ → ℕ → List Pair
 value_case v a = record { variable = v; value = a } ∷ []
 
 -- the readings of the cases of a step, in order: of rows of a constraint's relation, or of the values of a variable
-abbrev pub cases_of : LanguageView → InstanceView → Ground → List Pair → List (List Pair)
-cases_of lang inst (Ground.ByConstraint c) nogood = map (reading (constraint_of inst c).scope) (filter (is_case (constraint_of inst c).scope nogood) (rows_of lang (constraint_of inst c).relation))
-cases_of lang inst (Ground.ByVariable v) nogood = map (value_case v) (range_with_len 0 lang.domain)
+abbrev pub cases_of : LanguageView → InstanceView → Basis → List Pair → List (List Pair)
+cases_of lang inst (Basis.ByConstraint c) nogood = map (reading (constraint_of inst c).scope) (filter (is_case (constraint_of inst c).scope nogood) (rows_of lang (constraint_of inst c).relation))
+cases_of lang inst (Basis.ByVariable v) nogood = map (value_case v) (range_with_len 0 lang.domain)
 
 -- why a log is not valid
 pub data Why : Type 0 where
@@ -71,9 +71,9 @@ pub record LogFaultView : Type 0 where
   pub why : Why
 
 -- the constraint exists; the variable exists, and the nogood does not name it
-abbrev pub ground_placed : InstanceView → Ground → List Pair → Bool
-ground_placed inst (Ground.ByConstraint c) nogood = nat_lt c (length inst.constraints)
-ground_placed inst (Ground.ByVariable v) nogood = nat_lt v (length inst.variables) && not (list_any (λ p. p.variable == v) nogood)
+abbrev pub basis_placed : InstanceView → Basis → List Pair → Bool
+basis_placed inst (Basis.ByConstraint c) nogood = nat_lt c (length inst.constraints)
+basis_placed inst (Basis.ByVariable v) nogood = nat_lt v (length inst.variables) && not (list_any (λ p. p.variable == v) nogood)
 
 -- the variables and values exist
 abbrev pub pairs_placed : ℕ → ℕ → List Pair → Bool
@@ -86,11 +86,11 @@ ascending_pairs (p ∷ []) = true
 ascending_pairs (p ∷ q ∷ rest) = nat_lt p.variable q.variable && ascending_pairs (q ∷ rest)
 
 abbrev pub is_placed : LanguageView → InstanceView → StepView → Bool
-is_placed lang inst s = ground_placed inst s.ground s.nogood && pairs_placed (length inst.variables) lang.domain s.nogood && ascending_pairs s.nogood
+is_placed lang inst s = basis_placed inst s.basis s.nogood && pairs_placed (length inst.variables) lang.domain s.nogood && ascending_pairs s.nogood
 
 -- the nogood of an earlier step, and the empty one where there is none
 abbrev pub nogood_at : List StepView → ℕ → List Pair
-nogood_at earlier r = (slice_index_or earlier r (record { ground = Ground.ByVariable 0; nogood = []; references = [] })).nogood
+nogood_at earlier r = (slice_index_or earlier r (record { basis = Basis.ByVariable 0; nogood = []; references = [] })).nogood
 
 -- as far as both lists go, the nogood of each reference is contained in the nogood joined with the reading of its case
 abbrev pub covered : List StepView → List Pair → List (List Pair) → List ℕ → Bool
@@ -104,7 +104,7 @@ fault_unless passes why next = if passes then next else Some why
 
 -- the first fault of a step behind the earlier ones
 abbrev pub step_fault : LanguageView → InstanceView → List StepView → StepView → Option Why
-step_fault lang inst earlier s = fault_unless (is_placed lang inst s) Why.BadPlace (fault_unless (list_all (λ r. nat_lt r (length earlier)) s.references) Why.BadReference (fault_unless (covered earlier s.nogood (cases_of lang inst s.ground s.nogood) s.references) Why.NotContained (fault_unless (length s.references == length (cases_of lang inst s.ground s.nogood)) Why.WrongCount None)))
+step_fault lang inst earlier s = fault_unless (is_placed lang inst s) Why.BadPlace (fault_unless (list_all (λ r. nat_lt r (length earlier)) s.references) Why.BadReference (fault_unless (covered earlier s.nogood (cases_of lang inst s.basis s.nogood) s.references) Why.NotContained (fault_unless (length s.references == length (cases_of lang inst s.basis s.nogood)) Why.WrongCount None)))
 
 abbrev pub is_empty : List Pair → Bool
 is_empty [] = true

@@ -3,17 +3,17 @@ use Rattle.std.specs.Prelude.{◌≡◌, ◌≢◌, ℕ, zero, suc, ◌+◌, ◌
 use Rattle.std.specs.List.{range_with_len}
 use Rattle.pol_defs.specs.Relations.{LanguageView, rows_of}
 use Rattle.pol_defs.specs.Instances.{InstanceView, constraint_of}
-use Rattle.pol_defs.specs.Nogoods.{Pair, Ground, StepView, reading, is_case, value_case, Why, LogFaultView, cases_of, nogood_at, step_fault}
+use Rattle.pol_defs.specs.Nogoods.{Pair, Basis, StepView, reading, is_case, value_case, Why, LogFaultView, cases_of, nogood_at, step_fault}
 
 -- a step by its parts
-abbrev pub step_on : (ground : Ground) (nogood : List Pair) (references : List ℕ) → StepView
-step_on g nogood references = record { ground = g; nogood = nogood; references = references }
+abbrev pub step_on : (basis : Basis) (nogood : List Pair) (references : List ℕ) → StepView
+step_on g nogood references = record { basis = g; nogood = nogood; references = references }
 
 abbrev pub constraint_step_of : ℕ → List Pair → List ℕ → StepView
-constraint_step_of c nogood references = step_on (Ground.ByConstraint c) nogood references
+constraint_step_of c nogood references = step_on (Basis.ByConstraint c) nogood references
 
 abbrev pub variable_step_of : ℕ → List Pair → List ℕ → StepView
-variable_step_of v nogood references = step_on (Ground.ByVariable v) nogood references
+variable_step_of v nogood references = step_on (Basis.ByVariable v) nogood references
 
 -- what stands at a number that the log does not have
 abbrev pub no_step : StepView
@@ -38,9 +38,9 @@ pub record IsNogood (n d : ℕ) (nogood : List Pair) : Type 0 where
   pub ascending : AllPairs (λ p q. p.variable < q.variable) nogood
 
 -- a step can rest there: the constraint exists; the variable exists, and the nogood does not name it
-abbrev pub CanRestOn : InstanceView → List Pair → Ground → Type 0
-CanRestOn inst nogood (Ground.ByConstraint c) = c < length inst.constraints
-CanRestOn inst nogood (Ground.ByVariable v) = (v < length inst.variables) × All (λ p. p.variable ≢ v) nogood
+abbrev pub CanRestOn : InstanceView → List Pair → Basis → Type 0
+CanRestOn inst nogood (Basis.ByConstraint c) = c < length inst.constraints
+CanRestOn inst nogood (Basis.ByVariable v) = (v < length inst.variables) × All (λ p. p.variable ≢ v) nogood
 
 -- the readings of the rows that are cases, in order
 abbrev pub row_cases : List ℕ → List Pair → List (List ℕ) → List (List Pair)
@@ -62,9 +62,9 @@ pub record HasReferences (earlier : List StepView) (nogood : List Pair) (cases :
 
 -- a step by a constraint or a variable that exists, each of whose cases joined with its nogood contains the nogood of an earlier step
 pub record IsValidStep (lang : LanguageView) (inst : InstanceView) (earlier : List StepView) (s : StepView) : Type 0 where
-  pub rests : CanRestOn inst s.nogood s.ground
+  pub rests : CanRestOn inst s.nogood s.basis
   pub is_nogood : IsNogood (length inst.variables) lang.domain s.nogood
-  pub referred : HasReferences earlier s.nogood (cases_of lang inst s.ground s.nogood) s.references
+  pub referred : HasReferences earlier s.nogood (cases_of lang inst s.basis s.nogood) s.references
 
 -- each step is valid behind those before it
 abbrev pub AreValid : LanguageView → InstanceView → List StepView → Type 0
