@@ -1,0 +1,94 @@
+ghost use Rattle.std.specs.Prelude.{◌≡◌, ◌<◌, ◌≤◌, ◌^◌, [], ◌∷◌, ◌++◌, length, ◌↔◌, IsTrue, OnOk, OnErr, slice_index_or};
+
+use crate::Nogood;
+use pol_base::{NoMemory, Numbers, Values};
+use std::alloc::Global;
+use std::marker::Model;
+
+/// A step of a log: a nogood that is refuted by a constraint, or by the values of a variable, with
+/// the numbers of earlier steps, one for each case.
+#[derive(Debug, Drop)]
+pub enum Step {
+    ByConstraint {
+        c: u32,
+        nogood: Nogood,
+        refs: Numbers,
+    },
+    ByVariable {
+        v: u32,
+        nogood: Nogood,
+        refs: Numbers,
+    },
+}
+
+/// Steps, numbered from 0, that are to show that an instance has no solution.
+#[derive(Debug, Drop)]
+pub struct Log {
+    steps: Vec<Step>,
+}
+
+impl Model for Log {
+    ghost use Rattle.std.specs.Prelude.{◌≤◌, ◌^◌, List, length};
+    ghost use Rattle.pol_defs.specs.Nogoods.{StepView};
+
+    ghost Value = { List StepView };
+
+    ghost use Rattle.pol_nogood.specs.Steps.{steps_named};
+
+    ghost view = { λ l. steps_named l.steps.items };
+
+    ghost invariant = { λ l. length l.steps.items ≤ 2 ^ 31 };
+}
+
+/// What a solver answers whose No is a log.
+#[derive(Debug, Drop)]
+pub enum LogAnswer {
+    Yes(Values),
+    No(Log),
+}
+
+impl Log {
+    ghost use Rattle.pol_defs.specs.ValidLogs.{no_step};
+    ghost use Rattle.pol_nogood.specs.Steps.{step_named};
+
+    /// The log without steps. Takes no memory.
+    pub fn new(alloc: Global) -> Log
+        ensures empty { result ≡ [] }
+    {
+        Log {
+            steps: Vec::new(alloc),
+        }
+    }
+
+    /// Adds a step, the last. A step that is not added is dropped.
+    pub fn push(&mut self, step: Step) -> Result<(), NoMemory>
+        requires room { length self.old < 2 ^ 31 }
+        ensures ok { OnOk result (self.new ≡ self.old ++ step_named step ∷ []) }
+        ensures err { OnErr result (self.new ≡ self.old) }
+    {
+        self.steps.push(step)?;
+        Ok(())
+    }
+
+    /// How many steps there are.
+    pub fn len(&self) -> u32
+        ensures steps { result ≡ length self.now }
+        ensures few { result ≤ 2 ^ 31 }
+    {
+        self.steps.len() as u32
+    }
+
+    pub fn is_empty(&self) -> bool
+        ensures empty { IsTrue result ↔ (self.now ≡ []) }
+    {
+        self.steps.is_empty()
+    }
+
+    /// The step with the number `i`.
+    pub fn step(&self, i: u32) -> &Step
+        requires known { i < length self.now }
+        ensures step { step_named result.now ≡ slice_index_or self.now i no_step }
+    {
+        &self.steps[i as usize]
+    }
+}
