@@ -18,6 +18,7 @@ pub mod LogWalks
 pub mod LogSound
 pub mod LogMaking
 pub mod Counting
+pub mod ConstantSolutions
 pub mod Examples
 pub mod PrintedLines
 pub mod PrintedFiles
