@@ -1,0 +1,110 @@
+ghost use Rattle.std.specs.Prelude.{◌≡◌, ◌++◌, OnOk};
+ghost use Rattle.pol_base.specs.Names.{class_named};
+ghost use Rattle.pol_nogood.specs.Steps.{step_named};
+ghost use Rattle.pol_defs.specs.Texts.{spaced};
+ghost use Rattle.pol_defs.specs.Nogoods.{Basis};
+ghost use Rattle.pol_defs.specs.Reports.{undecided_line, yes_line, no_lines, steps_text, step_line, pairs_text};
+
+use pol_base::{ClassName, NoMemory, Numbers, Values};
+use pol_nogood::{Log, Nogood, Step};
+use pol_text::put_number;
+
+/// Appends the line of an instance that no class serves.
+pub(crate) fn put_undecided(out: &mut Values, name: &[u8]) -> Result<(), NoMemory>
+    ensures ok { OnOk result (out.new ≡ out.old ++ undecided_line name.now) }
+{
+    out.append(b"instance ")?;
+    out.append(name)?;
+    out.append(b" undecided\n")
+}
+
+/// Appends the line of a solution.
+pub(crate) fn put_yes(out: &mut Values, name: &[u8], class: ClassName, values: &[u8]) -> Result<(), NoMemory>
+    ensures ok { OnOk result (out.new ≡ out.old ++ yes_line name.now (class_named class) values.now) }
+{
+    out.append(b"instance ")?;
+    out.append(name)?;
+    out.append(b" yes ")?;
+    out.append(class.word())?;
+    put_values(out, values)?;
+    out.append(b"\n")
+}
+
+/// Appends the line that says that there is no solution, and the steps of the log behind it.
+pub(crate) fn put_no(out: &mut Values, name: &[u8], class: ClassName, log: &Log) -> Result<(), NoMemory>
+    ensures ok { OnOk result (out.new ≡ out.old ++ no_lines name.now (class_named class) log.now) }
+{
+    out.append(b"instance ")?;
+    out.append(name)?;
+    out.append(b" no ")?;
+    out.append(class.word())?;
+    out.append(b" ")?;
+    put_number(out, u64::from(log.len()))?;
+    out.append(b"\n")?;
+    put_steps(out, log)
+}
+
+fn put_steps(out: &mut Values, log: &Log) -> Result<(), NoMemory>
+    ensures ok { OnOk result (out.new ≡ out.old ++ steps_text log.now) }
+{
+    for s in 0..log.len() {
+        put_step(out, log.step(s))?;
+    }
+    Ok(())
+}
+
+fn put_step(out: &mut Values, step: &Step) -> Result<(), NoMemory>
+    ensures ok { OnOk result (out.new ≡ out.old ++ step_line (step_named step.now)) }
+{
+    match step {
+        Step::ByConstraint { c, nogood, refs } => put_step_parts(out, b"c ", *c, nogood, refs),
+        Step::ByVariable { v, nogood, refs } => put_step_parts(out, b"v ", *v, nogood, refs),
+    }
+}
+
+fn put_step_parts(out: &mut Values, letter: &[u8], number: u32, nogood: &Nogood, refs: &Numbers) -> Result<(), NoMemory> {
+    out.append(letter)?;
+    put_number(out, u64::from(number))?;
+    out.append(b" ")?;
+    put_number(out, u64::from(nogood.len()))?;
+    put_pairs(out, nogood)?;
+    out.append(b" ")?;
+    put_number(out, refs.as_slice().len() as u64)?;
+    put_numbers(out, refs.as_slice())?;
+    out.append(b"\n")
+}
+
+fn put_pairs(out: &mut Values, nogood: &Nogood) -> Result<(), NoMemory>
+    ensures ok { OnOk result (out.new ≡ out.old ++ pairs_text nogood.now) }
+{
+    for i in 0..nogood.len() {
+        let (variable, value) = nogood.pair(i);
+        out.append(b" ")?;
+        put_number(out, u64::from(variable))?;
+        out.append(b" ")?;
+        put_number(out, u64::from(value))?;
+    }
+    Ok(())
+}
+
+/// Appends the values, each behind a space.
+pub(crate) fn put_values(out: &mut Values, values: &[u8]) -> Result<(), NoMemory>
+    ensures ok { OnOk result (out.new ≡ out.old ++ spaced values.now) }
+{
+    for value in values {
+        out.append(b" ")?;
+        put_number(out, u64::from(*value))?;
+    }
+    Ok(())
+}
+
+/// Appends the numbers, each behind a space.
+fn put_numbers(out: &mut Values, numbers: &[u32]) -> Result<(), NoMemory>
+    ensures ok { OnOk result (out.new ≡ out.old ++ spaced numbers.now) }
+{
+    for number in numbers {
+        out.append(b" ")?;
+        put_number(out, u64::from(*number))?;
+    }
+    Ok(())
+}

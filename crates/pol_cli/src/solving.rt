@@ -1,0 +1,54 @@
+ghost use Rattle.std.specs.Prelude.{◌≡◌, ℕ, ◌<◌, List, IfOk};
+ghost use Rattle.pol_defs.specs.Classes.{ClosedUnder};
+ghost use Rattle.pol_defs.specs.Instances.{Fits};
+ghost use Rattle.pol_cli.specs.Answers.{IsYes, IsNo};
+
+use pol_base::{NoMemory, Numbers, Values};
+use pol_nogood::{Log, LogAnswer, Nogood, Step};
+use pol_relation::{Instance, Language};
+use std::alloc::Global;
+
+/// Solves an instance over a language that the constant operation of this value preserves: the
+/// constant assignment is a solution, unless a constraint uses an empty relation. Then the log has
+/// one step, by the first such constraint.
+pub(crate) fn solve_constant(alloc: Global, lang: &Language, inst: &Instance, value: u8) -> Result<LogAnswer, NoMemory>
+    requires fits { Fits lang.now inst.now }
+    requires value { value < lang.now.domain }
+    requires closed { ClosedUnder lang.now value }
+    ensures yes { IfOk result (IsYes lang.now inst.now) }
+    ensures no { IfOk result (IsNo lang.now inst.now) }
+{
+    match first_without_rows(lang, inst) {
+        Some(c) => Ok(LogAnswer::No(breaking_log(alloc, c)?)),
+        None => Ok(LogAnswer::Yes(constant_assignment(alloc, inst.variables(), value)?)),
+    }
+}
+
+/// The first constraint whose relation is empty.
+fn first_without_rows(lang: &Language, inst: &Instance) -> Option<u32> {
+    for c in 0..inst.constraints() {
+        if lang.relation(inst.relation_of(c)).is_empty() {
+            return Some(c);
+        }
+    }
+    None
+}
+
+/// The log of one step by the constraint, without pairs and references.
+fn breaking_log(alloc: Global, c: u32) -> Result<Log, NoMemory> {
+    let mut log = Log::new(alloc);
+    log.push(Step::ByConstraint {
+        c,
+        nogood: Nogood::new(),
+        refs: Numbers::new(alloc),
+    })?;
+    Ok(log)
+}
+
+fn constant_assignment(alloc: Global, variables: u32, value: u8) -> Result<Values, NoMemory> {
+    let mut values = Values::new(alloc);
+    for _ in 0..variables {
+        values.push(value)?;
+    }
+    Ok(values)
+}
