@@ -62,3 +62,20 @@ has_no_step = refl
 
 asks_for_cases : log_fault unequal triangle (by_constraint 0 [] [] ∷ []) ≡ fault 0 Why.WrongCount
 asks_for_cases = refl
+
+-- two variables that have to be unequal and equal
+abbrev equal_and_unequal : LanguageView
+equal_and_unequal = record { domain = 2; relations = (codes "neq", record { domain = 2; arity = 2; rows = (0 ∷ 1 ∷ []) ∷ (1 ∷ 0 ∷ []) ∷ [] }) ∷ (codes "eq", record { domain = 2; arity = 2; rows = (0 ∷ 0 ∷ []) ∷ (1 ∷ 1 ∷ []) ∷ [] }) ∷ [] }
+
+abbrev contradiction : InstanceView
+contradiction = record { name = codes "i"; variables = codes "x" ∷ codes "y" ∷ []; constraints = record { relation = 0; scope = 0 ∷ 1 ∷ [] } ∷ record { relation = 1; scope = 0 ∷ 1 ∷ [] } ∷ [] }
+
+refutes_the_contradiction : log_fault equal_and_unequal contradiction (by_constraint 0 (pair 0 0 ∷ pair 1 0 ∷ []) [] ∷ by_constraint 0 (pair 0 1 ∷ pair 1 1 ∷ []) [] ∷ by_constraint 1 [] (0 ∷ 1 ∷ []) ∷ []) ≡ None
+refutes_the_contradiction = refl
+
+-- a row that reads two values for a repeated variable is no case
+abbrev unequal_to_itself : InstanceView
+unequal_to_itself = record { name = codes "i"; variables = codes "x" ∷ []; constraints = record { relation = 0; scope = 0 ∷ 0 ∷ [] } ∷ [] }
+
+refutes_unequal_to_itself : log_fault equal_and_unequal unequal_to_itself (by_constraint 0 [] [] ∷ []) ≡ None
+refutes_unequal_to_itself = refl
