@@ -9,6 +9,11 @@ pub record SourceView : Type 0 where
   pub failing : List ℕ
   pub calls : ℕ
 
+-- a source that never fails
+pub record CalmView : Type 0 where
+  pub left : List ℕ
+  pub chunk : ℕ
+
 pub record SinkView : Type 0 where
   pub bytes : List ℕ
   pub room : ℕ
