@@ -1,0 +1,34 @@
+//! One run over memory.
+use pol_base::{NoMemory, Values};
+use pol_cli::run;
+use pol_outside::{MemorySink, MemorySource};
+use std::alloc::Global;
+
+/// What was written, and the status.
+#[derive(Debug, Drop)]
+pub(crate) struct Outcome {
+    pub(crate) text: Values,
+    pub(crate) status: u8,
+}
+
+/// Runs with one word of the command line.
+pub(crate) fn outcome(alloc: Global, word: &str, input: &[u8]) -> Result<Outcome, NoMemory> {
+    let mut words = Vec::new(alloc);
+    words.push(String::from_str(alloc, word)?)?;
+    let mut source = MemorySource::new(input, 64, &[]);
+    let mut sink = MemorySink::new(alloc, 65_536, 64, &[])?;
+    let ended = run(alloc, &words, &mut source, &mut sink);
+    Ok(Outcome {
+        text: Values::from_slice(alloc, sink.bytes())?,
+        status: ended.status(),
+    })
+}
+
+/// The text with an LF for each bar, so that a text of several lines stands on one.
+pub(crate) fn lines(alloc: Global, text: &[u8]) -> Result<Values, NoMemory> {
+    let mut bytes = Values::new(alloc);
+    for byte in text {
+        bytes.push(if *byte == b'|' { b'\n' } else { *byte })?;
+    }
+    Ok(bytes)
+}

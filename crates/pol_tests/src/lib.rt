@@ -1,0 +1,11 @@
+//! Tests across the crates: what `run` writes for whole inputs, and how it ends.
+#![tactic(auto)]
+
+#[cfg(test)]
+mod faults;
+#[cfg(test)]
+mod harness;
+#[cfg(test)]
+mod refusals;
+#[cfg(test)]
+mod reports;

@@ -1,0 +1,226 @@
+use crate::harness::{lines, outcome};
+use pol_base::{NoMemory, Values};
+use pol_text::put_number;
+use std::alloc::Global;
+use std::test::Fail;
+
+#[test]
+fn refusals_of_small_files(rt: HostRuntime) -> Result<(), Fail> {
+    let alloc = rt.alloc();
+    let cases: [(&[u8], &[u8]); 34] = [
+        (b"", b"refused 1 NoHeader|"),
+        (b"|||", b"refused 4 NoHeader|"),
+        (b"# only|# comments", b"refused 3 NoHeader|"),
+        (b"\r", b"refused 2 NoHeader|"),
+        (b"polyanna 9|", b"refused 1 BadVersion|"),
+        (b"polyanna 0000000001|", b"refused 1 BadVersion|"),
+        (b"polyanna 1|domain 6|", b"refused 2 BadDomain|"),
+        (b"polyanna 1|domain two|", b"refused 2 BadNumber|"),
+        (b"polyanna 1|domain 2|", b"refused 3 Ended|"),
+        (b"polyanna 1|domain 2", b"refused 3 Ended|"),
+        (b"polyanna 1|domain 2|tuple 0|", b"refused 3 BadLine|"),
+        (b"polyanna 1|domain 2|relation 2r 1|", b"refused 3 BadName|"),
+        (
+            b"polyanna 1|domain 2|relation r\0 1|",
+            b"refused 3 BadName|",
+        ),
+        (
+            b"polyanna 1|domain 2|relation abcdefghijklmnopqrstuvwxyz0123456 1|",
+            b"refused 3 BadName|",
+        ),
+        (
+            b"polyanna 1|domain 2|relation r 1|relation r 2|",
+            b"refused 4 RepeatedName|",
+        ),
+        (b"polyanna 1|domain 2|relation r 7|", b"refused 3 BadArity|"),
+        (
+            b"polyanna 1|domain 2|relation r 2|tuple 0|",
+            b"refused 4 ShortTuple|",
+        ),
+        (
+            b"polyanna 1|domain 2|relation r 2|tuple 0 1 0|",
+            b"refused 4 LongTuple|",
+        ),
+        (
+            b"polyanna 1|domain 2|relation r 2|tuple 0 2|",
+            b"refused 4 ValueOutside|",
+        ),
+        (
+            b"polyanna 1|domain 2|relation r 2|tuple 2 x|",
+            b"refused 4 ValueOutside|",
+        ),
+        (
+            b"polyanna 1|domain 5|relation r 5|",
+            b"refused 3 SubsetLimit|",
+        ),
+        (
+            b"polyanna 1|domain 2|instance i x|constraint s x|",
+            b"refused 4 UnknownRelation|",
+        ),
+        (
+            b"polyanna 1|domain 2|instance i x|constraint s y|",
+            b"refused 4 UnknownRelation|",
+        ),
+        (
+            b"polyanna 1|domain 2|relation r 1|instance i x|constraint r y|",
+            b"refused 5 UnknownVariable|",
+        ),
+        (
+            b"polyanna 1|domain 2|relation r 1|instance i x|constraint r|",
+            b"refused 5 BadArity|",
+        ),
+        (
+            b"polyanna 1|domain 2|instance i x|constraint|",
+            b"refused 4 BadLine|",
+        ),
+        (b"polyanna 1|domain 2|instance i|", b"refused 3 BadLine|"),
+        (
+            b"polyanna 1|domain 2|instance i x x|",
+            b"refused 3 RepeatedName|",
+        ),
+        (
+            b"polyanna 1|domain 2|instance i x|instance i x|",
+            b"refused 4 RepeatedName|",
+        ),
+        (
+            b"polyanna 1|domain 2|instance i x|relation r 1|",
+            b"refused 4 BadLine|",
+        ),
+        (
+            b"polyanna 1|domain 2|constraint r x|",
+            b"refused 3 BadLine|",
+        ),
+        (b"polyanna 1|domain 2|end|x|", b"refused 4 AfterEnd|"),
+        (b"polyanna 1|domain 2|end|# x||y", b"refused 6 AfterEnd|"),
+        (b"polyanna 1|domain 2|end x|", b"refused 3 BadLine|"),
+    ];
+    for (input, refusal) in cases {
+        let done = outcome(alloc, "report", lines(alloc, input)?.as_slice())?;
+        assert_eq!(rt;
+            done.text.as_slice(),
+            lines(alloc, refusal)?.as_slice(),
+            "at {input:?}"
+        );
+        assert_eq!(rt; done.status, 3);
+    }
+    Ok(())
+}
+
+/// A line for each of so many numbers: the front, the number, and what is behind it.
+fn put_numbered(
+    text: &mut Values,
+    count: u32,
+    front: &[u8],
+    behind: &[u8],
+) -> Result<(), NoMemory> {
+    for number in 0..count {
+        text.append(front)?;
+        put_number(text, u64::from(number))?;
+        text.append(behind)?;
+    }
+    Ok(())
+}
+
+/// The tuples of the numbers below the count, written with so many digits in the base.
+fn put_tuples(text: &mut Values, count: u32, base: u32, arity: u32) -> Result<(), NoMemory> {
+    for number in 0..count {
+        text.append(b"tuple")?;
+        for place in 0..arity {
+            text.append(b" ")?;
+            put_number(
+                text,
+                u64::from(number / base.saturating_pow(arity - 1 - place).max(1) % base.max(1)),
+            )?;
+        }
+        text.append(b"\n")?;
+    }
+    Ok(())
+}
+
+fn begun(alloc: Global, text: &[u8]) -> Result<Values, NoMemory> {
+    lines(alloc, text)
+}
+
+#[test]
+fn refusals_at_the_limits_on_numbers(rt: HostRuntime) -> Result<(), Fail> {
+    let alloc = rt.alloc();
+    let mut relations = begun(alloc, b"polyanna 1|domain 2|")?;
+    put_numbered(&mut relations, 33, b"relation r", b" 1\n")?;
+    let mut instances = begun(alloc, b"polyanna 1|domain 2|")?;
+    put_numbered(&mut instances, 9, b"instance i", b" x\n")?;
+    let mut variables = begun(alloc, b"polyanna 1|domain 2|instance i")?;
+    put_numbered(&mut variables, 41, b" x", b"")?;
+    let mut constraints = begun(
+        alloc,
+        b"polyanna 1|domain 2|relation r 1|tuple 0|instance i x|",
+    )?;
+    for _ in 0..257 {
+        constraints.append(b"constraint r x\n")?;
+    }
+    let cases: [(&Values, &[u8]); 4] = [
+        (&relations, b"refused 35 TooManyRelations|"),
+        (&instances, b"refused 11 TooManyInstances|"),
+        (&variables, b"refused 3 TooManyVariables|"),
+        (&constraints, b"refused 262 TooManyConstraints|"),
+    ];
+    for (input, refusal) in cases {
+        let done = outcome(alloc, "report", input.as_slice())?;
+        assert_eq!(rt; done.text.as_slice(), lines(alloc, refusal)?.as_slice());
+    }
+    Ok(())
+}
+
+#[test]
+fn limits_on_tuples(rt: HostRuntime) -> Result<(), Fail> {
+    let alloc = rt.alloc();
+    let cases: [(&[u8], u32, u32, u32, &[u8], &[u8]); 5] = [
+        (
+            b"polyanna 1|domain 2|relation r 6|",
+            38,
+            2,
+            6,
+            b"end|",
+            b"polyanna-report 1|class constant 0 0|end|",
+        ),
+        (
+            b"polyanna 1|domain 2|relation r 6|",
+            39,
+            2,
+            6,
+            b"end|",
+            b"polyanna-report 1|class constant 0 0|end|",
+        ),
+        (
+            b"polyanna 1|domain 3|relation r 5|",
+            128,
+            3,
+            5,
+            b"end|",
+            b"polyanna-report 1|class constant 0 0 0|end|",
+        ),
+        (
+            b"polyanna 1|domain 3|relation r 5|",
+            129,
+            3,
+            5,
+            b"end|",
+            b"refused 132 TooManyTuples|",
+        ),
+        (
+            b"polyanna 1|domain 3|relation r 5|",
+            128,
+            3,
+            5,
+            b"relation b 1|tuple 0|end|",
+            b"refused 133 TripleLimit|",
+        ),
+    ];
+    for (front, count, base, arity, behind, written) in cases {
+        let mut input = begun(alloc, front)?;
+        put_tuples(&mut input, count, base, arity)?;
+        input.append(lines(alloc, behind)?.as_slice())?;
+        let done = outcome(alloc, "report", input.as_slice())?;
+        assert_eq!(rt; done.text.as_slice(), lines(alloc, written)?.as_slice());
+    }
+    Ok(())
+}
