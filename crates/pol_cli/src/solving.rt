@@ -1,7 +1,7 @@
 ghost use Rattle.std.specs.Prelude.{◌≡◌, ℕ, ◌<◌, List, IfOk};
 ghost use Rattle.pol_defs.specs.Classes.{ClosedUnder};
 ghost use Rattle.pol_defs.specs.Instances.{Fits};
-ghost use Rattle.pol_cli.specs.Answers.{IsYes, IsNo};
+ghost use Rattle.pol_nogood.specs.Answers.{YesSolves, NoOnlyWithoutSolution, NoHasCertificate};
 
 use pol_base::{NoMemory, Numbers, Values};
 use pol_nogood::{Log, LogAnswer, Nogood, Step};
@@ -15,8 +15,9 @@ pub(crate) fn solve_constant(alloc: Global, lang: &Language, inst: &Instance, va
     requires fits { Fits lang.now inst.now }
     requires value { value < lang.now.domain }
     requires closed { ClosedUnder lang.now value }
-    ensures yes { IfOk result (IsYes lang.now inst.now) }
-    ensures no { IfOk result (IsNo lang.now inst.now) }
+    ensures yes { IfOk result (YesSolves lang.now inst.now) }
+    ensures no_only_without_solution { IfOk result (NoOnlyWithoutSolution lang.now inst.now) }
+    ensures certificate { IfOk result (NoHasCertificate 1 lang.now inst.now) }
 {
     match first_without_rows(lang, inst) {
         Some(c) => Ok(LogAnswer::No(breaking_log(alloc, c)?)),
