@@ -1,6 +1,8 @@
-ghost use Rattle.std.specs.Prelude.{◌≡◌, ℕ, ◌<◌, List, IfOk};
+ghost use Rattle.std.specs.Prelude.{◌≡◌, ◌<◌, [], length, replicate, IfOk, IfSome, IfNone};
 ghost use Rattle.pol_defs.specs.Classes.{ClosedUnder};
-ghost use Rattle.pol_defs.specs.Instances.{Fits};
+ghost use Rattle.pol_defs.specs.Relations.{rows_of};
+ghost use Rattle.pol_defs.specs.Instances.{Fits, UsesRows, constraint_of};
+ghost use Rattle.pol_defs.specs.ValidLogs.{breaking_log};
 ghost use Rattle.pol_nogood.specs.Answers.{YesSolves, NoOnlyWithoutSolution, NoHasCertificate};
 
 use pol_base::{NoMemory, Numbers, Values};
@@ -26,7 +28,12 @@ pub(crate) fn solve_constant(alloc: Global, lang: &Language, inst: &Instance, va
 }
 
 /// The first constraint whose relation is empty.
-fn first_without_rows(lang: &Language, inst: &Instance) -> Option<u32> {
+fn first_without_rows(lang: &Language, inst: &Instance) -> Option<u32>
+    requires fits { Fits lang.now inst.now }
+    ensures known { IfSome result (λ c. c < length inst.now.constraints) }
+    ensures empty { IfSome result (λ c. rows_of lang.now (constraint_of inst.now c).relation ≡ []) }
+    ensures none { IfNone result (UsesRows lang.now inst.now) }
+{
     for c in 0..inst.constraints() {
         if lang.relation(inst.relation_of(c)).is_empty() {
             return Some(c);
@@ -36,7 +43,9 @@ fn first_without_rows(lang: &Language, inst: &Instance) -> Option<u32> {
 }
 
 /// The log of one step by the constraint, without pairs and references.
-fn breaking_log(alloc: Global, c: u32) -> Result<Log, NoMemory> {
+fn breaking_log(alloc: Global, c: u32) -> Result<Log, NoMemory>
+    ensures log { IfOk result (λ log. log ≡ breaking_log c) }
+{
     let mut log = Log::new(alloc);
     log.push(Step::ByConstraint {
         c,
@@ -46,7 +55,9 @@ fn breaking_log(alloc: Global, c: u32) -> Result<Log, NoMemory> {
     Ok(log)
 }
 
-fn constant_assignment(alloc: Global, variables: u32, value: u8) -> Result<Values, NoMemory> {
+fn constant_assignment(alloc: Global, variables: u32, value: u8) -> Result<Values, NoMemory>
+    ensures values { IfOk result (λ values. values ≡ replicate variables value) }
+{
     let mut values = Values::new(alloc);
     for _ in 0..variables {
         values.push(value)?;

@@ -4,7 +4,7 @@ use Rattle.std.proofs.lemmas.List.{length-replicate, get_or-replicate}
 use Rattle.std.proofs.lemmas.List.Elements.{All-head, All-tail, All-replicate}
 use Rattle.pol_defs.specs.Tuples.{IsTuple}
 use Rattle.pol_defs.specs.Relations.{LanguageView, IsLanguage, rows_of, relation_of, no_relation}
-use Rattle.pol_defs.specs.Instances.{ConstraintView, InstanceView, FitsAt, Fits, Meets, IsSolution, read_at}
+use Rattle.pol_defs.specs.Instances.{ConstraintView, InstanceView, FitsAt, Fits, Meets, UsesRows, IsSolution, read_at}
 use Rattle.pol_defs.proofs.ConstantLemmas.{HoldsConstant, ClosedUnder}
 
 read_constant : (n a : ℕ) (scope : List ℕ) → All (λ x. x < n) scope → read_at (replicate n a) scope ≡ replicate (length scope) a
@@ -24,10 +24,6 @@ meets_constant lang n a c closed fits some =
     let row = constant_row lang a c.relation closed fits.known some in
     let same : replicate (relation_of lang c.relation).arity a ≡ read_at (replicate n a) c.scope = ap (λ k. replicate k a) (sym fits.long) ∙ sym (read_constant n a c.scope fits.below) in
     subst (λ t. Contains (rows_of lang c.relation) t) same row
-
--- no constraint uses an empty relation
-abbrev pub UsesRows : LanguageView → InstanceView → Type 0
-UsesRows lang inst = All (λ c. rows_of lang c.relation ≢ []) inst.constraints
 
 -- the constant assignment is a solution where no constraint uses an empty relation
 pub constant_solution : (lang : LanguageView) (inst : InstanceView) (a : ℕ) → Fits lang inst → a < lang.domain → ClosedUnder lang a → UsesRows lang inst → IsSolution lang inst (replicate (length inst.variables) a)

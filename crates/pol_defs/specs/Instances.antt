@@ -49,6 +49,10 @@ read_at assignment scope = map (λ x. slice_index assignment x) scope
 abbrev pub Meets : LanguageView → ConstraintView → List ℕ → Type 0
 Meets lang c assignment = Contains (rows_of lang c.relation) (read_at assignment c.scope)
 
+-- no constraint uses an empty relation
+abbrev pub UsesRows : LanguageView → InstanceView → Type 0
+UsesRows lang inst = All (λ c. rows_of lang c.relation ≢ []) inst.constraints
+
 -- an assignment of values of the domain to all variables that meets every constraint
 pub record IsSolution (lang : LanguageView) (inst : InstanceView) (assignment : List ℕ) : Type 0 where
   pub assigns : IsTuple lang.domain (length inst.variables) assignment
