@@ -29,10 +29,10 @@ fn put_class_line(
 {
     out.append(b"class ")?;
     out.append(class.word())?;
-    match table {
-        Some(cells) => put_spaced(out, cells.as_slice())?,
-        None => out.append(b" none")?,
-    }
+    let Some(cells) = table else {
+        return out.append(b" none\n");
+    };
+    put_spaced(out, cells.as_slice())?;
     out.append(b"\n")
 }
 

@@ -1,9 +1,13 @@
-ghost use Rattle.std.specs.Prelude.{◌≡◌, ◌↔◌, ◌≤◌, ◌⊎◌, ◌^◌, length, IfOk, IfSome, IsSome, IsTrue};
+ghost use Rattle.std.specs.Prelude.{◌≡◌, ◌↔◌, ◌≤◌, ◌+◌, ◌⊎◌, ◌^◌, length, IfOk, OnOk, IsErrOf, IfSome, IsSome, IsTrue};
 ghost use Rattle.std.specs.Io.KnownBytes.{IsAtEnd};
+ghost use Rattle.pol_outside.specs.Contents.{Takes, TakesAtMost};
 ghost use Rattle.pol_outside.specs.Faults.{Rose};
-ghost use Rattle.pol_defs.specs.Due.{AsksReport, AreKnown, AskInput, IsDue};
+ghost use Rattle.pol_text.specs.Words.{refusal_named};
+ghost use Rattle.pol_defs.specs.Refusals.{refusal_line};
+ghost use Rattle.pol_defs.specs.Due.{AsksReport, AreKnown, AskInput, most_bytes};
 ghost use Rattle.pol_cli.specs.Endings.{ending_of};
 ghost use Rattle.pol_cli.specs.Runs.{texts_of, WritesDue, WritesFront, HasRead};
+ghost use Rattle.pol_cli.specs.Answers.{report_words, IsAnswer, IsAnswerFor, Writes};
 
 use crate::Ended;
 use crate::report::report_text;
@@ -65,7 +69,9 @@ fn asks_report(words: &[String]) -> bool
 }
 
 /// Writes the text, and ends so where it was written.
-fn write<O: Sink>(sink: &mut O, text: &[u8], ended: Ended) -> Ended {
+fn write<O: Sink>(sink: &mut O, text: &[u8], ended: Ended) -> Ended
+    ensures writes { Writes ended result text.now (O.written sink.old) (O.written sink.new) (O.faults sink.old) (O.faults sink.new) }
+{
     match write_all(sink, text) {
         Ok(()) => ended,
         Err(WriteFault) => Ended::WriteFault,
@@ -91,7 +97,14 @@ impl From<NoMemory> for Stop {
 }
 
 /// Reads the input to its end, and makes the text that is due for it.
-fn prepare<S: Source>(alloc: Global, source: &mut S) -> Result<(Values, Ended), Stop> {
+fn prepare<S: Source>(alloc: Global, source: &mut S) -> Result<(Values, Ended), Stop>
+    ensures answer { IfOk result (λ made. IsAnswerFor report_words (S.left source.old) made.0 made.1) }
+    ensures read { IfOk result (λ made. HasRead made.1 (S.left source.old) (S.left source.new)) }
+    ensures taken { OnOk result (IsAtEnd (S.left source.new) ⊎ Takes (S.left source.old) (S.left source.new) (most_bytes + 1)) }
+    ensures read_fault { IsErrOf result Stop.ReadFault → Rose (S.faults source.old) (S.faults source.new) }
+    ensures read_fault_taken { IsErrOf result Stop.ReadFault → TakesAtMost (S.left source.old) (S.left source.new) most_bytes }
+    ensures no_memory { IsErrOf result Stop.NoMemory → TakesAtMost (S.left source.old) (S.left source.new) (most_bytes + 1) }
+{
     match read_all(alloc, source, MOST_BYTES) {
         Ok(bytes) => Ok(report(alloc, bytes.as_slice())?),
         Err(TakeFault::TooLong) => Ok(refused(
@@ -109,6 +122,7 @@ fn prepare<S: Source>(alloc: Global, source: &mut S) -> Result<(Values, Ended), 
 /// What `report` writes for the input, and how it ends.
 fn report(alloc: Global, bytes: &[u8]) -> Result<(Values, Ended), NoMemory>
     requires few { length bytes.now ≤ 2 ^ 28 }
+    ensures answer { IfOk result (λ made. IsAnswer report_words bytes.now made.0 made.1) }
 {
     let (file, rest) = match read_file(alloc, bytes) {
         Ok(read) => read,
@@ -122,7 +136,9 @@ fn report(alloc: Global, bytes: &[u8]) -> Result<(Values, Ended), NoMemory>
 }
 
 /// The line of the refusal.
-fn refused(alloc: Global, refusal: Refusal) -> Result<(Values, Ended), NoMemory> {
+fn refused(alloc: Global, refusal: Refusal) -> Result<(Values, Ended), NoMemory>
+    ensures refused { IfOk result (λ made. made ≡ (refusal_line (refusal_named refusal), Ended.Refused refusal)) }
+{
     let mut text = Values::new(alloc);
     put_refusal(&mut text, refusal)?;
     Ok((text, Ended::Refused(refusal)))

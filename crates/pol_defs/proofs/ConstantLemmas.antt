@@ -8,7 +8,7 @@ use Rattle.std.proofs.lemmas.List.FromFn.{length-map-range_with_len, get_or-map-
 use Rattle.pol_defs.specs.Tuples.{IsTuple, IsBefore, cell_of}
 use Rattle.pol_defs.specs.Relations.{RelationView, IsRelation, LanguageView, IsLanguage, no_relation, relation_of}
 use Rattle.pol_defs.specs.Operations.{Operation, IsOperation, value_at, image, Preserves}
-use Rattle.pol_defs.specs.Classes.{IsConstant, IsTable, ConstantLine}
+use Rattle.pol_defs.specs.Classes.{IsConstant, IsTable, ConstantLine, HoldsConstant, ClosedUnder}
 use Rattle.pol_defs.proofs.RelationLemmas.{Contains-nil}
 
 -- the operation of one argument with these cells
@@ -68,10 +68,6 @@ image-constant d n a row tuple =
     let value : get_or row i 0 < d = tuple.below i 0 (omega (arith, tuple.long)) in
     get_or-map-range_with_len f 0 n i i 0 within (omega arith) ∙ (value_at-constant d a (get_or row i 0) value ∙ sym (get_or-replicate n i a 0 within)))
 
--- the relation is empty or has the tuple of nothing but a
-abbrev pub HoldsConstant : RelationView → ℕ → Type 0
-HoldsConstant r a = (r.rows ≡ []) ⊎ Contains r.rows (replicate r.arity a)
-
 preserves_rows : (d n a : ℕ) (relation_rows : List (List ℕ)) → All (IsTuple d n) relation_rows → (relation_rows ≡ []) ⊎ Contains relation_rows (replicate n a) → (rows : List (List ℕ)) → length rows ≡ 1 → All (Contains relation_rows) rows → Contains relation_rows (image (unary d (constant_cells d a)) n rows)
 preserves_rows d n a relation_rows tuples holds [] one members = absurd (cc)
 preserves_rows d n a relation_rows tuples holds (row ∷ []) one members =
@@ -98,10 +94,6 @@ holds_rows d n a (row ∷ rows) tuples preserves =
 pub holds_from_preserves : (d a : ℕ) (r : RelationView) → IsRelation r → r.domain ≡ d → Preserves (unary d (constant_cells d a)) r → HoldsConstant r a
 holds_from_preserves d a r is same preserves =
     holds_rows d r.arity a r.rows (subst (λ size. All (IsTuple size r.arity) r.rows) same is.tuples) preserves
-
--- each relation is empty or has the tuple of nothing but a
-abbrev pub ClosedUnder : LanguageView → ℕ → Type 0
-ClosedUnder lang a = All (λ named. HoldsConstant named.1 a) lang.relations
 
 pub ClosedUnder-from_places : (lang : LanguageView) (a : ℕ) → ((r : ℕ) → r < length lang.relations → HoldsConstant (relation_of lang r) a) → ClosedUnder lang a
 ClosedUnder-from_places lang a holds = All-from_get_or (λ named. HoldsConstant named.1 a) lang.relations ([], no_relation) holds

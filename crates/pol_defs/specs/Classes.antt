@@ -1,6 +1,6 @@
 -- The classes of operations, and the line of a class for a language.
-use Rattle.std.specs.Prelude.{◌≡◌, ℕ, ◌<◌, List, [], ◌∷◌, Option, codes}
-use Rattle.pol_defs.specs.Relations.{LanguageView}
+use Rattle.std.specs.Prelude.{◌≡◌, ℕ, ◌<◌, ◌⊎◌, List, [], ◌∷◌, replicate, Option, All, Contains, codes}
+use Rattle.pol_defs.specs.Relations.{RelationView, LanguageView}
 use Rattle.pol_defs.specs.Operations.{Operation, IsOperation, value_at, IsPolymorphism}
 use Rattle.pol_defs.specs.Least.{AnswersLeast}
 
@@ -36,3 +36,11 @@ pub record IsTable (identities : Operation → Type 0) (K : ℕ) (lang : Languag
 -- the line of the class `constant`: its least table, and none exactly where there is none
 abbrev pub ConstantLine : LanguageView → Option (List ℕ) → Type 0
 ConstantLine lang line = AnswersLeast (IsTable IsConstant 1 lang) line
+
+-- the relation is empty or has the tuple of nothing but a
+abbrev pub HoldsConstant : RelationView → ℕ → Type 0
+HoldsConstant r a = (r.rows ≡ []) ⊎ Contains r.rows (replicate r.arity a)
+
+-- each relation is empty or has the tuple of nothing but a
+abbrev pub ClosedUnder : LanguageView → ℕ → Type 0
+ClosedUnder lang a = All (λ named. HoldsConstant named.1 a) lang.relations
