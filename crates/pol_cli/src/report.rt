@@ -1,6 +1,7 @@
 ghost use Rattle.std.specs.Prelude.{◌≡◌, ◌++◌, OnOk, IfOk};
 ghost use Rattle.pol_base.specs.Names.{class_named};
-ghost use Rattle.pol_defs.specs.Reports.{IsReport, class_line, spaced};
+ghost use Rattle.pol_defs.specs.Reports.{IsReport, class_line};
+ghost use Rattle.pol_defs.specs.Texts.{spaced};
 
 use crate::line_of_class::constant_line;
 use pol_base::{ClassName, NoMemory, Values};

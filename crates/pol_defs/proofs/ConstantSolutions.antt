@@ -5,7 +5,7 @@ use Rattle.std.proofs.lemmas.List.Elements.{All-head, All-tail, All-replicate}
 use Rattle.pol_defs.specs.Tuples.{IsTuple}
 use Rattle.pol_defs.specs.Relations.{LanguageView, IsLanguage, rows_of, relation_of, no_relation}
 use Rattle.pol_defs.specs.Instances.{ConstraintView, InstanceView, FitsAt, Fits, Meets, UsesRows, IsSolution, read_at}
-use Rattle.pol_defs.proofs.ConstantLemmas.{HoldsConstant, ClosedUnder}
+use Rattle.pol_defs.specs.Classes.{HoldsConstant, ClosedUnder}
 
 read_constant : (n a : ℕ) (scope : List ℕ) → All (λ x. x < n) scope → read_at (replicate n a) scope ≡ replicate (length scope) a
 read_constant n a [] below = refl

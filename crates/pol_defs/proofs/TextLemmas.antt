@@ -1,6 +1,6 @@
 -- Texts that are put together piece by piece.
 use Rattle.std.proofs.Common.{◌≡◌, ℕ, List, [], ◌∷◌, ◌++◌, refl, sym, ap, ◌∙◌, append_assoc, append-nil, codes, decimal}
-use Rattle.pol_defs.specs.Reports.{spaced}
+use Rattle.pol_defs.specs.Texts.{spaced}
 
 pub spaced-append : (xs ys : List ℕ) → spaced (xs ++ ys) ≡ spaced xs ++ spaced ys
 spaced-append [] ys = refl

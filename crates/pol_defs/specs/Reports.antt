@@ -96,3 +96,10 @@ pub record IsBegunReport (file : FileView) (text : List ℕ) : Type 0 where
   pub items : List (List ℕ)
   pub right_items : AreFirstItems file items
   pub text_is : text ≡ head_line ++ joined items
+
+-- a begun report with so many items
+pub record HasItems (count : ℕ) (file : FileView) (text : List ℕ) : Type 0 where
+  pub items : List (List ℕ)
+  pub count_is : length items ≡ count
+  pub right_items : AreFirstItems file items
+  pub text_is : text ≡ head_line ++ joined items

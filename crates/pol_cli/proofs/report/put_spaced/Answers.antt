@@ -1,6 +1,6 @@
 use Rattle.std.proofs.Common.{◌≡◌, ℕ, ◌+◌, ◌<◌, List, [], ◌∷◌, ◌++◌, length, take, get_or, sym, ap, ◌∙◌, arith, codes, decimal}
 use Rattle.std.proofs.lemmas.List.{take_more}
-use Rattle.pol_defs.specs.Reports.{spaced}
+use Rattle.pol_defs.specs.Texts.{spaced}
 use Rattle.pol_defs.proofs.TextLemmas.{spaced-more}
 use Rattle.pol_cli.proofs.report.put_spaced.Goals as goal
 

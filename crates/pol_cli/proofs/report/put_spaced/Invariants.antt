@@ -1,5 +1,5 @@
 use Rattle.std.proofs.Common.{◌≡◌, ◌++◌, take}
-use Rattle.pol_defs.specs.Reports.{spaced}
+use Rattle.pol_defs.specs.Texts.{spaced}
 use Rattle.pol_cli.proofs.report.put_spaced.Given as goal
 
 abbrev pub invariant-loop-number : goal.invariant-loop-number
