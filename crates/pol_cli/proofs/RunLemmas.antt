@@ -60,11 +60,13 @@ pub fault_from_writes : (words : List (List ℕ)) (left old new : Option (List �
 fault_from_writes words left old new text wanted result before after input (whole same appended) fault =
     let none : ending_of wanted ≡ None = ap ending_of (sym same ∙ fault) in
     absurd (cc (none, input.answer.ending_is))
-fault_from_writes words left old new text wanted result before after input (cut_off same rose (front, rest, split, appended)) fault =
-    (rose, record {
-      bytes = input.bytes;
-      front = front;
-      told = input.told;
-      is_front = due text rest input.answer.ending input.answer.due split;
-      appended = appended;
-    })
+fault_from_writes words left old new text wanted result before after input (cut_off same rose (front, rest, split, appended)) fault = (
+  rose,
+  record {
+    bytes = input.bytes;
+    front = front;
+    told = input.told;
+    is_front = due text rest input.answer.ending input.answer.due split;
+    appended = appended;
+  },
+)

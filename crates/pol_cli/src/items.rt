@@ -3,11 +3,28 @@ ghost use Rattle.pol_base.specs.Names.{class_named};
 ghost use Rattle.pol_nogood.specs.Steps.{step_named};
 ghost use Rattle.pol_defs.specs.Texts.{spaced};
 ghost use Rattle.pol_defs.specs.Nogoods.{Basis};
-ghost use Rattle.pol_defs.specs.Reports.{undecided_line, yes_line, no_lines, steps_text, step_line, pairs_text};
+ghost use Rattle.pol_defs.specs.Reports.{class_line, undecided_line, yes_line, no_lines, steps_text, step_line, pairs_text};
 
 use pol_base::{ClassName, NoMemory, Numbers, Values};
 use pol_nogood::{Log, Nogood, Step};
 use pol_text::put_number;
+
+/// Appends the line of the class: its table, or `none`.
+pub(crate) fn put_class_line(
+    out: &mut Values,
+    class: ClassName,
+    table: &Option<Values>,
+) -> Result<(), NoMemory>
+    ensures ok { OnOk result (out.new ≡ out.old ++ class_line (class_named class) table.now) }
+{
+    out.append(b"class ")?;
+    out.append(class.word())?;
+    let Some(cells) = table else {
+        return out.append(b" none\n");
+    };
+    put_values(out, cells.as_slice())?;
+    out.append(b"\n")
+}
 
 /// Appends the line of an instance that no class serves.
 pub(crate) fn put_undecided(out: &mut Values, name: &[u8]) -> Result<(), NoMemory>
@@ -19,7 +36,12 @@ pub(crate) fn put_undecided(out: &mut Values, name: &[u8]) -> Result<(), NoMemor
 }
 
 /// Appends the line of a solution.
-pub(crate) fn put_yes(out: &mut Values, name: &[u8], class: ClassName, values: &[u8]) -> Result<(), NoMemory>
+pub(crate) fn put_yes(
+    out: &mut Values,
+    name: &[u8],
+    class: ClassName,
+    values: &[u8],
+) -> Result<(), NoMemory>
     ensures ok { OnOk result (out.new ≡ out.old ++ yes_line name.now (class_named class) values.now) }
 {
     out.append(b"instance ")?;
@@ -31,7 +53,12 @@ pub(crate) fn put_yes(out: &mut Values, name: &[u8], class: ClassName, values: &
 }
 
 /// Appends the line that says that there is no solution, and the steps of the log behind it.
-pub(crate) fn put_no(out: &mut Values, name: &[u8], class: ClassName, log: &Log) -> Result<(), NoMemory>
+pub(crate) fn put_no(
+    out: &mut Values,
+    name: &[u8],
+    class: ClassName,
+    log: &Log,
+) -> Result<(), NoMemory>
     ensures ok { OnOk result (out.new ≡ out.old ++ no_lines name.now (class_named class) log.now) }
 {
     out.append(b"instance ")?;
@@ -62,7 +89,13 @@ fn put_step(out: &mut Values, step: &Step) -> Result<(), NoMemory>
     }
 }
 
-fn put_step_parts(out: &mut Values, letter: &[u8], number: u32, nogood: &Nogood, refs: &Numbers) -> Result<(), NoMemory> {
+fn put_step_parts(
+    out: &mut Values,
+    letter: &[u8],
+    number: u32,
+    nogood: &Nogood,
+    refs: &Numbers,
+) -> Result<(), NoMemory> {
     out.append(letter)?;
     put_number(out, u64::from(number))?;
     out.append(b" ")?;
@@ -88,7 +121,7 @@ fn put_pairs(out: &mut Values, nogood: &Nogood) -> Result<(), NoMemory>
 }
 
 /// Appends the values, each behind a space.
-pub(crate) fn put_values(out: &mut Values, values: &[u8]) -> Result<(), NoMemory>
+fn put_values(out: &mut Values, values: &[u8]) -> Result<(), NoMemory>
     ensures ok { OnOk result (out.new ≡ out.old ++ spaced values.now) }
 {
     for value in values {

@@ -3,8 +3,10 @@
 #![tactic(auto)]
 
 mod ended;
+mod items;
 mod line_of_class;
 mod report;
+mod solving;
 mod top;
 
 pub use ended::Ended;

@@ -1,49 +1,84 @@
-ghost use Rattle.std.specs.Prelude.{◌≡◌, ◌++◌, OnOk, IfOk};
-ghost use Rattle.pol_base.specs.Names.{class_named};
-ghost use Rattle.pol_defs.specs.Reports.{IsReport, class_line};
-ghost use Rattle.pol_defs.specs.Texts.{spaced};
+ghost use Rattle.std.specs.Prelude.{Some, OnOk, IfOk};
+ghost use Rattle.pol_defs.specs.Classes.{ConstantLine};
+ghost use Rattle.pol_defs.specs.Instances.{Fits};
+ghost use Rattle.pol_defs.specs.Reports.{IsReport, HasItems, item_count};
+ghost use Rattle.pol_cli.specs.Items.{AppendsItem};
 
+use crate::items::{put_class_line, put_no, put_undecided, put_yes};
 use crate::line_of_class::constant_line;
+use crate::solving::solve_constant;
 use pol_base::{ClassName, NoMemory, Values};
 use pol_lang::File;
-use pol_text::put_number;
+use pol_nogood::LogAnswer;
+use pol_relation::{Instance, Language};
 use std::alloc::Global;
 
 /// The report of the file.
 pub(crate) fn report_text(alloc: Global, file: &File) -> Result<Values, NoMemory>
     ensures report { IfOk result (IsReport file.now) }
 {
-    let table = constant_line(alloc, file.lang())?;
+    let line = constant_line(alloc, file.lang())?;
     let mut text = Values::from_slice(alloc, b"polyanna-report 1\n")?;
-    put_class_line(&mut text, ClassName::Constant, &table)?;
+    put_class_line(&mut text, ClassName::Constant, &line)?;
+    put_instances(alloc, &mut text, file, &line)?;
     text.append(b"end\n")?;
     Ok(text)
 }
 
-/// Appends the line of the class: its table, or `none`.
-fn put_class_line(
-    out: &mut Values,
-    class: ClassName,
-    table: &Option<Values>,
+/// Appends the items of the instances, in their order.
+fn put_instances(
+    alloc: Global,
+    text: &mut Values,
+    file: &File,
+    line: &Option<Values>,
 ) -> Result<(), NoMemory>
-    ensures ok { OnOk result (out.new ≡ out.old ++ class_line (class_named class) table.now) }
+    requires line { ConstantLine file.now.language line.now }
+    requires begun { HasItems 1 file.now text.old }
+    ensures all { OnOk result (HasItems (item_count file.now) file.now text.new) }
 {
-    out.append(b"class ")?;
-    out.append(class.word())?;
-    let Some(cells) = table else {
-        return out.append(b" none\n");
-    };
-    put_spaced(out, cells.as_slice())?;
-    out.append(b"\n")
-}
-
-/// Appends the numbers, each behind a space.
-fn put_spaced(out: &mut Values, numbers: &[u8]) -> Result<(), NoMemory>
-    ensures ok { OnOk result (out.new ≡ out.old ++ spaced numbers.now) }
-{
-    for number in numbers {
-        out.append(b" ")?;
-        put_number(out, u64::from(*number))?;
+    for i in 0..file.instances() {
+        put_instance(alloc, text, file.lang(), file.instance(i), line)?;
     }
     Ok(())
+}
+
+/// Appends the item of an instance: undecided where the class line holds no table.
+fn put_instance(
+    alloc: Global,
+    text: &mut Values,
+    lang: &Language,
+    inst: &Instance,
+    line: &Option<Values>,
+) -> Result<(), NoMemory>
+    requires fits { Fits lang.now inst.now }
+    requires line { ConstantLine lang.now line.now }
+    ensures item { OnOk result (AppendsItem lang.now inst.now text.old text.new) }
+{
+    match line {
+        Some(cells) => put_answer(alloc, text, lang, inst, cells.as_slice()),
+        None => put_undecided(text, inst.name()),
+    }
+}
+
+/// Appends the item of an instance that the constant operation with these cells serves.
+fn put_answer(
+    alloc: Global,
+    text: &mut Values,
+    lang: &Language,
+    inst: &Instance,
+    cells: &[u8],
+) -> Result<(), NoMemory>
+    requires fits { Fits lang.now inst.now }
+    requires line { ConstantLine lang.now (Some cells.now) }
+    ensures item { OnOk result (AppendsItem lang.now inst.now text.old text.new) }
+{
+    match solve_constant(alloc, lang, inst, cells[0])? {
+        LogAnswer::Yes(values) => put_yes(
+            text,
+            inst.name(),
+            ClassName::Constant,
+            values.as_slice(),
+        ),
+        LogAnswer::No(log) => put_no(text, inst.name(), ClassName::Constant, &log),
+    }
 }

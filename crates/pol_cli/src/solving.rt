@@ -13,7 +13,12 @@ use std::alloc::Global;
 /// Solves an instance over a language that the constant operation of this value preserves: the
 /// constant assignment is a solution, unless a constraint uses an empty relation. Then the log has
 /// one step, by the first such constraint.
-pub(crate) fn solve_constant(alloc: Global, lang: &Language, inst: &Instance, value: u8) -> Result<LogAnswer, NoMemory>
+pub(crate) fn solve_constant(
+    alloc: Global,
+    lang: &Language,
+    inst: &Instance,
+    value: u8,
+) -> Result<LogAnswer, NoMemory>
     requires fits { Fits lang.now inst.now }
     requires value { value < lang.now.domain }
     requires closed { ClosedUnder lang.now value }

@@ -146,3 +146,19 @@ constant_line_none lang is none = λ cells table.
 -- one relation that is neither empty nor has the tuple is enough
 pub not_closed : (lang : LanguageView) (b : ℕ) → Any (λ named. HoldsConstant named.1 b → ⊥) lang.relations → ClosedUnder lang b → ⊥
 not_closed lang b broken closed = broken.4 (subst (λ named. HoldsConstant named.1 b) broken.3 (closed broken.0 broken.1 broken.2))
+
+-- the value of the operation whose table is the line
+pub record IsLineValue (lang : LanguageView) (cells : List ℕ) : Type 0 where
+  pub some_cells : 0 < length cells
+  pub below : get_or cells 0 0 < lang.domain
+  pub closed : ClosedUnder lang (get_or cells 0 0)
+
+pub line_value : (lang : LanguageView) (cells : List ℕ) → IsLanguage lang → ConstantLine lang (Some cells) → IsLineValue lang cells
+line_value lang cells is line =
+    let closed = closed_from_table lang cells is line.holds in
+    let same : get_or cells 0 0 ≡ closed.value = ap (λ some. get_or some 0 0) closed.cells_are ∙ get_or-replicate lang.domain 0 closed.value 0 is.domain_is.some in
+    record {
+      some_cells = omega (arith, ap length closed.cells_are, length-replicate lang.domain closed.value, is.domain_is.some);
+      below = subst (λ v. v < lang.domain) (sym same) closed.below;
+      closed = subst (ClosedUnder lang) (sym same) closed.closed;
+    }
