@@ -45,14 +45,21 @@ def repeated(path, size):
 
 
 def largest(path):
-    """The largest language: 32 relations with as many tuples as are accepted."""
-    tuples = list(itertools.islice(itertools.product(range(5), repeat=4), 40))
+    """A file at the limits: 32 relations of 40 tuples, whose cubes make 2,048,000, and 8 instances of 40 variables
+    with 256 constraints each, all names of 32 bytes."""
+    tuples = list(itertools.islice(itertools.product(range(3), repeat=5), 40))
+    names = ["x" * 29 + f"{x:03}" for x in range(40)]
     with open(path, "w") as out:
-        out.write("polyanna 1\ndomain 5\n")
+        out.write("polyanna 1\ndomain 3\n")
         for r in range(32):
-            out.write(f"relation r{r} {1 if r else 4}\n")
-            for t in tuples if r == 0 else [(v,) for v in range(5)]:
+            out.write(f"relation {'r' * 29}{r:03} 5\n")
+            for t in tuples:
                 out.write("tuple " + " ".join(map(str, t)) + "\n")
+        for i in range(8):
+            out.write(f"instance {'i' * 29}{i:03} " + " ".join(names) + "\n")
+            for c in range(256):
+                scope = " ".join(names[(7 * c + 11 * k) % 40] for k in range(5))
+                out.write(f"constraint {'r' * 29}{c % 32:03} {scope}\n")
         out.write("end\n")
 
 
@@ -88,7 +95,7 @@ def main():
             ("2^28 bytes, most of them comment", lambda p: comment(p, MOST)),
             ("2^28 + 1 bytes", lambda p: comment(p, MOST + 1)),
             ("2^28 bytes of repeated tuples", lambda p: repeated(p, MOST)),
-            ("the largest language", largest),
+            ("a file at the limits", largest),
         ]:
             path = os.path.join(folder, "input")
             make(path)
