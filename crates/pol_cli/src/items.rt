@@ -1,9 +1,9 @@
-ghost use Rattle.std.specs.Prelude.{◌≡◌, ◌++◌, OnOk};
+ghost use Rattle.std.specs.Prelude.{◌≡◌, ◌++◌, codes, decimal, OnOk};
 ghost use Rattle.pol_base.specs.Names.{class_named};
 ghost use Rattle.pol_nogood.specs.Steps.{step_named};
 ghost use Rattle.pol_defs.specs.Texts.{spaced};
 ghost use Rattle.pol_defs.specs.Nogoods.{Basis};
-ghost use Rattle.pol_defs.specs.Reports.{class_line, undecided_line, yes_line, no_lines, steps_text, step_line, pairs_text};
+ghost use Rattle.pol_defs.specs.Reports.{class_line, undecided_line, yes_line, no_lines, steps_text, step_line, counted_pairs, counted_references, pairs_text};
 
 use pol_base::{ClassName, NoMemory, Numbers, Values};
 use pol_nogood::{Log, Nogood, Step};
@@ -32,7 +32,8 @@ pub(crate) fn put_undecided(out: &mut Values, name: &[u8]) -> Result<(), NoMemor
 {
     out.append(b"instance ")?;
     out.append(name)?;
-    out.append(b" undecided\n")
+    out.append(b" undecided\n")?;
+    Ok(())
 }
 
 /// Appends the line of a solution.
@@ -95,16 +96,30 @@ fn put_step_parts(
     number: u32,
     nogood: &Nogood,
     refs: &Numbers,
-) -> Result<(), NoMemory> {
+) -> Result<(), NoMemory>
+    ensures ok { OnOk result (out.new ≡ out.old ++ (letter.now ++ decimal number ++ counted_pairs nogood.now ++ counted_references refs.now ++ codes "\n")) }
+{
     out.append(letter)?;
     put_number(out, u64::from(number))?;
+    put_counted_pairs(out, nogood)?;
+    put_counted_references(out, refs.as_slice())?;
+    out.append(b"\n")
+}
+
+fn put_counted_pairs(out: &mut Values, nogood: &Nogood) -> Result<(), NoMemory>
+    ensures ok { OnOk result (out.new ≡ out.old ++ counted_pairs nogood.now) }
+{
     out.append(b" ")?;
     put_number(out, u64::from(nogood.len()))?;
-    put_pairs(out, nogood)?;
+    put_pairs(out, nogood)
+}
+
+fn put_counted_references(out: &mut Values, references: &[u32]) -> Result<(), NoMemory>
+    ensures ok { OnOk result (out.new ≡ out.old ++ counted_references references.now) }
+{
     out.append(b" ")?;
-    put_number(out, refs.as_slice().len() as u64)?;
-    put_numbers(out, refs.as_slice())?;
-    out.append(b"\n")
+    put_number(out, references.len() as u64)?;
+    put_numbers(out, references)
 }
 
 fn put_pairs(out: &mut Values, nogood: &Nogood) -> Result<(), NoMemory>
@@ -112,12 +127,18 @@ fn put_pairs(out: &mut Values, nogood: &Nogood) -> Result<(), NoMemory>
 {
     for i in 0..nogood.len() {
         let (variable, value) = nogood.pair(i);
-        out.append(b" ")?;
-        put_number(out, u64::from(variable))?;
-        out.append(b" ")?;
-        put_number(out, u64::from(value))?;
+        put_pair(out, variable, value)?;
     }
     Ok(())
+}
+
+fn put_pair(out: &mut Values, variable: u32, value: u8) -> Result<(), NoMemory>
+    ensures ok { OnOk result (out.new ≡ out.old ++ codes " " ++ decimal variable ++ codes " " ++ decimal value) }
+{
+    out.append(b" ")?;
+    put_number(out, u64::from(variable))?;
+    out.append(b" ")?;
+    put_number(out, u64::from(value))
 }
 
 /// Appends the values, each behind a space.

@@ -42,9 +42,17 @@ abbrev pub basis_text : Basis → List ℕ
 basis_text (Basis.ByConstraint c) = codes "c " ++ decimal c
 basis_text (Basis.ByVariable v) = codes "v " ++ decimal v
 
--- what the step rests on, its pairs behind their number, and its references behind theirs
+-- the pairs behind their number
+abbrev pub counted_pairs : List Pair → List ℕ
+counted_pairs pairs = codes " " ++ decimal (length pairs) ++ pairs_text pairs
+
+-- the references behind their number
+abbrev pub counted_references : List ℕ → List ℕ
+counted_references references = codes " " ++ decimal (length references) ++ spaced references
+
+-- what the step rests on, its pairs and its references
 abbrev pub step_line : StepView → List ℕ
-step_line s = basis_text s.basis ++ codes " " ++ decimal (length s.nogood) ++ pairs_text s.nogood ++ codes " " ++ decimal (length s.references) ++ spaced s.references ++ codes "\n"
+step_line s = basis_text s.basis ++ counted_pairs s.nogood ++ counted_references s.references ++ codes "\n"
 
 abbrev pub steps_text : List StepView → List ℕ
 steps_text [] = []

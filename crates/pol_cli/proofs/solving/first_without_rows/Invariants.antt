@@ -1,0 +1,8 @@
+use Rattle.std.proofs.Common.{◌≢◌, ℕ, ◌<◌, []}
+use Rattle.pol_defs.specs.Relations.{rows_of}
+use Rattle.pol_defs.specs.Instances.{constraint_of}
+use Rattle.pol_cli.proofs.solving.first_without_rows.Given as goal
+
+-- the constraints so far have rows
+abbrev pub invariant-loop-c : goal.invariant-loop-c
+invariant-loop-c l = (k : ℕ) → k < l.c → rows_of l.lang (constraint_of l.inst k).relation ≢ []
