@@ -1,5 +1,6 @@
 -- Which texts and endings answer an input.
-use Rattle.std.proofs.Common.{◌≡◌, ℕ, ◌+◌, ◌<◌, ◌≤◌, List, ◌++◌, length, Option, Some, None, Ok, Err, refl, ap, ◌∙◌, length-append, arith}
+use Rattle.std.proofs.Common.{◌≡◌, ℕ, ◌+◌, ◌<◌, ◌≤◌, List, length, Option, Some, None, Result, Ok, Err, IfOk, refl, sym, ap, subst, length-append, arith}
+use Rattle.std.proofs.lemmas.Result.{IfOk-weaker}
 use Rattle.std.specs.Io.KnownBytes.{Consumes}
 use Rattle.pol_outside.specs.Contents.{Takes}
 use Rattle.pol_text.specs.declared.refusal.Refusal.{Refusal}
@@ -11,9 +12,15 @@ use Rattle.pol_defs.specs.Grammar.{parse, extra}
 use Rattle.pol_defs.specs.Reports.{IsReport}
 use Rattle.pol_defs.specs.Due.{Ending, most_bytes}
 use Rattle.pol_defs.specs.Due.IsDue.{too_long, refused, more, reported}
+use Rattle.pol_cli.specs.declared.ended.Ended.{Ended}
 use Rattle.pol_cli.specs.declared.ended.Ended.TheVariants as ended
 use Rattle.pol_cli.specs.Runs.{Told}
-use Rattle.pol_cli.specs.Answers.{report_words, IsAnswer, IsAnswerFor}
+use Rattle.pol_cli.specs.DueAnswers.{report_words, IsAnswer, IsAnswerFor}
+
+-- a call that makes a text with an ending, where those are an answer
+pub IsAnswer-made : {E : Type 0} (result : Result (List ℕ × Ended) E) (words : List (List ℕ)) (bytes text : List ℕ) (ended : Ended) → IfOk result (λ made. made ≡ (text, ended)) → IsAnswer words bytes text ended → IfOk result (λ made. IsAnswer words bytes made.0 made.1)
+IsAnswer-made result words bytes text ended made answer =
+    IfOk-weaker result (λ pair. pair ≡ (text, ended)) (λ pair. IsAnswer words bytes pair.0 pair.1) (λ pair same. subst (λ some. IsAnswer words bytes some.0 some.1) (sym same) answer) made
 
 -- a text that is no file is refused
 pub IsAnswer-refused : (bytes : List ℕ) (refusal : Refusal) → length bytes ≤ most_bytes → parse bytes ≡ Err (refusal_named refusal) → IsAnswer report_words bytes (refusal_line (refusal_named refusal)) (ended.Refused refusal)

@@ -1,8 +1,6 @@
 -- What stands written when a run ends, and what that has to do with the text that was to be written.
-use Rattle.std.proofs.Common.{◌≡◌, ℕ, List, [], ◌++◌, Option, Some, None, IfSome, refl, sym, ap, ◌∙◌, subst}
+use Rattle.std.proofs.Common.{◌≡◌, ℕ, List, [], Option, Some, None, IfSome, refl, sym, ap, ◌∙◌, subst}
 use Rattle.std.proofs.KnownBytes.{Appends-nil}
-use Rattle.std.specs.Io.KnownBytes.{Appends}
-use Rattle.pol_outside.specs.Contents.{AppendsFront}
 use Rattle.pol_outside.specs.Faults.{Rose}
 use Rattle.pol_defs.specs.Due.{Ending, AsksReport, AreKnown, usage_line}
 use Rattle.pol_defs.specs.Due.IsDue.{usage}
@@ -11,8 +9,8 @@ use Rattle.pol_cli.specs.declared.ended.Ended.{Ended}
 use Rattle.pol_cli.specs.declared.ended.Ended.TheVariants as ended
 use Rattle.pol_cli.specs.Endings.{ending_of}
 use Rattle.pol_cli.specs.Runs.{Told, WritesDue, WritesFront}
-use Rattle.pol_cli.specs.Answers.{report_words, IsAnswerFor, Writes}
-use Rattle.pol_cli.specs.Answers.Writes.{whole, cut_off}
+use Rattle.pol_cli.specs.DueAnswers.{report_words, IsAnswerFor, Writes}
+use Rattle.pol_cli.specs.DueAnswers.Writes.{whole, cut_off}
 
 -- some bytes, which are those that are told
 told_bytes : Option (List ℕ) → List ℕ

@@ -1,5 +1,5 @@
 -- When the words of a command line ask for a report.
-use Rattle.std.proofs.Common.{◌≡◌, ℕ, ◌↔◌, List, [], ◌∷◌, length, get_or, String, string_bytes, IsTrue, ap, ◌∙◌, arith, codes}
+use Rattle.std.proofs.Common.{◌≡◌, ◌↔◌, List, [], ◌∷◌, length, get_or, String, string_bytes, IsTrue, ap, ◌∙◌, arith, codes}
 use Rattle.pol_defs.specs.Relations.{is_same}
 use Rattle.pol_defs.specs.Due.{AsksReport}
 use Rattle.pol_defs.proofs.RelationLemmas.{is_same-decides}

@@ -1,4 +1,4 @@
 pub mod Endings
 pub mod Runs
-pub mod Answers
+pub mod DueAnswers
 pub mod Items

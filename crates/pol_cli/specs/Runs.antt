@@ -1,5 +1,5 @@
 -- What a run takes of its input and writes to its output. Contents that are not told are any bytes.
-use Rattle.std.specs.Prelude.{◌≡◌, ℕ, ◌+◌, ◌^◌, ◌⊎◌, List, map, Option, Some, None, String, string_bytes, ⊤}
+use Rattle.std.specs.Prelude.{◌≡◌, ℕ, ◌+◌, ◌⊎◌, List, map, Option, Some, None, String, string_bytes, ⊤}
 use Rattle.std.specs.Io.KnownBytes.{Appends, IsAtEnd}
 use Rattle.pol_outside.specs.Contents.{Takes, TakesAtMost}
 use Rattle.pol_cli.specs.declared.ended.Ended.{Ended}

@@ -7,7 +7,7 @@ ghost use Rattle.pol_defs.specs.Refusals.{refusal_line};
 ghost use Rattle.pol_defs.specs.Due.{AsksReport, AreKnown, AskInput, most_bytes};
 ghost use Rattle.pol_cli.specs.Endings.{ending_of};
 ghost use Rattle.pol_cli.specs.Runs.{texts_of, WritesDue, WritesFront, HasRead};
-ghost use Rattle.pol_cli.specs.Answers.{report_words, IsAnswer, IsAnswerFor, Writes};
+ghost use Rattle.pol_cli.specs.DueAnswers.{report_words, IsAnswer, IsAnswerFor, Writes};
 
 use crate::Ended;
 use crate::report::report_text;

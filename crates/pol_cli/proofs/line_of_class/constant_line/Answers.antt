@@ -1,4 +1,4 @@
-use Rattle.std.proofs.Common.{◌≡◌, replicate, sym, ap, subst, ◌∙◌, Some}
+use Rattle.std.proofs.Common.{replicate, sym, ap, subst, ◌∙◌, Some}
 use Rattle.pol_defs.specs.Classes.{ConstantLine}
 use Rattle.pol_defs.proofs.ConstantLemmas.{constant_line_found, constant_line_none}
 use Rattle.pol_cli.proofs.line_of_class.constant_line.Goals as goal

@@ -1,4 +1,4 @@
-use Rattle.std.proofs.Common.{below_more, true≢false, sym, ◌∙◌, rules}
+use Rattle.std.proofs.Common.{below_more, rules}
 use Rattle.pol_cli.proofs.line_of_class.least_constant.Goals as goal
 
 pub loop-value-preserved : goal.loop-value-preserved

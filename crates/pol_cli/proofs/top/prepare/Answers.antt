@@ -1,5 +1,5 @@
 use Rattle.std.proofs.Common.{refl, sym, subst, rules}
-use Rattle.pol_cli.specs.Answers.{report_words, IsAnswerFor}
+use Rattle.pol_cli.specs.DueAnswers.{report_words, IsAnswerFor}
 use Rattle.pol_cli.proofs.AnswerLemmas.{IsAnswerFor-too_long}
 use Rattle.pol_cli.proofs.top.prepare.Goals as goal
 
