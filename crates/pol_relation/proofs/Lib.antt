@@ -1,2 +1,4 @@
 pub mod NameLemmas
+pub mod RangeLemmas
 pub mod TupleLemmas
+pub mod WeightLemmas

@@ -1,6 +1,5 @@
 ghost use Rattle.std.specs.Prelude.{◌≡◌, ℕ, ◌<◌, ◌≤◌, ◌↔◌, ◌++◌, List, [], ◌∷◌, length, All, Contains, IfOk, IfSome, IfNone, OnOk, OnErr, IsErrOf, IsTrue, slice_index_or};
-ghost use Rattle.pol_defs.specs.Tuples.{IsTuple};
-ghost use Rattle.pol_defs.specs.Instances.{ConstraintView, InstanceView, IsInstance, Fits, Meets, IsSolution, constraint_of, with_variable, with_constraint};
+ghost use Rattle.pol_defs.specs.Instances.{ConstraintView, InstanceView, IsInstance, FitsAt, Fits, constraint_of, with_variable, with_constraint};
 
 use crate::{AddFault, Language};
 use pol_base::{NoMemory, Values};
@@ -8,7 +7,7 @@ use smallvec::SmallVec;
 use std::alloc::Global;
 use std::marker::Model;
 
-const MOST_PLACES: usize = 6;
+pub(crate) const MOST_PLACES: usize = 6;
 
 /// A constraint: the number of a relation, and the variables of its places.
 #[derive(Drop)]
@@ -165,35 +164,12 @@ impl Instance {
         (0..self.constraints()).all(|c| self.fits_at(lang, c))
     }
 
+    /// Whether constraint `c` is one of a relation of the language, with a scope of its arity.
     fn fits_at(&self, lang: &Language, c: u32) -> bool
         requires known { c < length self.now.constraints }
+        ensures fits { IsTrue result ↔ FitsAt lang.now (length self.now.variables) (constraint_of self.now c) }
     {
         let relation = self.relation_of(c);
         relation < lang.len() && lang.relation(relation).arity() as usize == self.scope(c).len()
-    }
-
-    /// Whether the tuple that the assignment reads at the scope of constraint `c` is a row of its relation.
-    pub fn meets(&self, lang: &Language, c: u32, assignment: &[u8]) -> bool
-        requires fits { Fits lang.now self.now }
-        requires known { c < length self.now.constraints }
-        requires assigns { IsTuple lang.now.domain (length self.now.variables) assignment.now }
-        ensures meets { IsTrue result ↔ Meets lang.now (constraint_of self.now c) assignment.now }
-    {
-        let scope = self.scope(c);
-        let mut tuple = [0; MOST_PLACES];
-        for (value, variable) in tuple.iter_mut().zip(scope) {
-            *value = assignment[*variable as usize];
-        }
-        lang.relation(self.relation_of(c))
-            .has(&tuple[..scope.len()])
-    }
-
-    /// Whether the assignment meets every constraint.
-    pub fn is_solution(&self, lang: &Language, assignment: &[u8]) -> bool
-        requires fits { Fits lang.now self.now }
-        requires assigns { IsTuple lang.now.domain (length self.now.variables) assignment.now }
-        ensures solution { IsTrue result ↔ IsSolution lang.now self.now assignment.now }
-    {
-        (0..self.constraints()).all(|c| self.meets(lang, c, assignment))
     }
 }

@@ -1,6 +1,7 @@
-ghost use Rattle.std.specs.Prelude.{◌≡◌, ℕ, ◌<◌, ◌≤◌, ◌↔◌, length, Contains, IfOk, IfSome, IfNone, OnOk, OnErr, IsErrOf, [], ◌∷◌};
+ghost use Rattle.std.specs.Prelude.{◌≡◌, ℕ, ◌-◌, ◌^◌, ◌<◌, ◌≤◌, ◌↔◌, min, length, Contains, IfOk, IfSome, IfNone, OnOk, OnErr, IsErrOf, [], ◌∷◌};
 ghost use Rattle.pol_defs.specs.Tuples.{IsTuple};
 ghost use Rattle.pol_defs.specs.Relations.{LanguageView, IsLanguage, names_of, name_of, relation_of, last_of, with_relation, with_last_row};
+ghost use Rattle.pol_defs.specs.Files.{weight_of, subset_weight_of};
 
 use crate::Relation;
 use indexmap::IndexMap;
@@ -118,6 +119,34 @@ impl Language {
         ensures language { IsLanguage self.now }
     {
         self.relations.len() as u32
+    }
+
+    /// The sum over the relations of the `k`-th powers of their numbers of rows, or the greatest
+    /// `u64` where the sum is above it. Takes no memory.
+    pub fn weight(&self, k: u32) -> u64
+        requires some { 1 ≤ k }
+        requires few { k ≤ 16 }
+        ensures sum { result ≡ min (weight_of k self.now.relations) (2 ^ 64 - 1) }
+    {
+        let mut weight = 0u64;
+        for i in 0..self.len() {
+            let rows = u64::from(self.relation(i).len());
+            weight = weight.saturating_add(rows.saturating_pow(k));
+        }
+        weight
+    }
+
+    /// The sum over the relations of the number of vectors of nonempty sets of values, one set for
+    /// each place. Takes no memory.
+    pub fn subset_weight(&self) -> u64
+        ensures sum { result ≡ subset_weight_of self.now.domain self.now.relations }
+    {
+        let subsets = 2u64.pow(u32::from(self.domain().size())) - 1;
+        let mut weight = 0u64;
+        for i in 0..self.len() {
+            weight += subsets.pow(self.relation(i).arity());
+        }
+        weight
     }
 
     pub fn domain(&self) -> Domain
