@@ -1,4 +1,5 @@
 pub mod NameLemmas
 pub mod RangeLemmas
+pub mod SolutionLemmas
 pub mod TupleLemmas
 pub mod WeightLemmas

@@ -1,6 +1,6 @@
 ghost use Rattle.std.specs.Prelude.{◌≡◌, ℕ, ◌-◌, ◌^◌, ◌<◌, ◌≤◌, ◌↔◌, min, length, Contains, IfOk, IfSome, IfNone, OnOk, OnErr, IsErrOf, [], ◌∷◌};
 ghost use Rattle.pol_defs.specs.Tuples.{IsTuple};
-ghost use Rattle.pol_defs.specs.Relations.{LanguageView, IsLanguage, names_of, name_of, relation_of, last_of, with_relation, with_last_row};
+ghost use Rattle.pol_defs.specs.Relations.{LanguageView, IsLanguage, IsRelationOver, names_of, name_of, relation_of, last_of, with_relation, with_last_row};
 ghost use Rattle.pol_defs.specs.Files.{weight_of, subset_weight_of};
 
 use crate::Relation;
@@ -159,6 +159,7 @@ impl Language {
     pub fn relation(&self, i: u32) -> &Relation
         requires known { i < length self.now.relations }
         ensures relation { result.now ≡ relation_of self.now i }
+        ensures over { IsRelationOver self.now.domain result.now }
     {
         &self.relations[i as usize]
     }

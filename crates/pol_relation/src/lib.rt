@@ -4,6 +4,7 @@
 mod instance;
 mod language;
 mod relation;
+mod solutions;
 
 pub use instance::Instance;
 pub use language::{AddFault, Language};
