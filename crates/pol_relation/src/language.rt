@@ -178,6 +178,7 @@ impl Language {
 #[cfg(test)]
 mod tests {
     use super::*;
+    use std::process::Abort;
     use std::test::Fail;
 
     #[test]
@@ -216,6 +217,40 @@ mod tests {
         assert_eq!(rt; language.relation(0).len(), 0);
         assert_eq!(rt; language.relation(1).len(), 2);
         assert_eq!(rt; language.relation(1).row(0), [0].as_slice());
+        Ok(())
+    }
+
+    fn relation(
+        rt: &impl Abort,
+        alloc: Global,
+        d: Domain,
+        arity: u32,
+        rows: &[u8],
+    ) -> Result<Relation, Fail>
+        ensures domain { IfOk result (λ r. r.domain ≡ d) }
+    {
+        let size = d.size();
+        assert!(rt; 1 <= arity && arity <= 6);
+        assert!(rt; rows.len() % arity as usize == 0);
+        assert!(rt; rows.iter().all(|value| *value < size));
+        Ok(Relation::from_rows(alloc, d, arity, rows)?)
+    }
+
+    #[test]
+    fn the_sums_over_two_relations(rt: HostRuntime) -> Result<(), Fail> {
+        let alloc = rt.alloc();
+        let d = Domain::new(4).expect(&rt, "four values");
+        let pairs = [
+            0, 0, 0, 1, 0, 2, 0, 3, 1, 0, 1, 1, 1, 2, 1, 3, 2, 0, 2, 1, 2, 2, 2, 3, 3, 0, 3, 1, 3,
+            2, 3, 3,
+        ];
+        let mut language = Language::new(alloc, d);
+        language.add(b"all", relation(&rt, alloc, d, 2, &pairs)?)?;
+        language.add(b"two", relation(&rt, alloc, d, 1, &[1, 3])?)?;
+        assert_eq!(rt; language.weight(1), 18);
+        assert_eq!(rt; language.weight(3), 4104);
+        assert_eq!(rt; language.weight(16), u64::MAX);
+        assert_eq!(rt; language.subset_weight(), 240);
         Ok(())
     }
 }

@@ -1,4 +1,4 @@
-//! Relations, and the languages that they make.
+//! Relations, the languages that they make, and constraint instances over them.
 #![tactic(auto)]
 
 mod instance;
