@@ -2,11 +2,11 @@
 use Rattle.std.specs.Prelude.{List, map}
 use Rattle.pol_nogood.specs.declared.log.Step.{Step}
 use Rattle.pol_nogood.specs.declared.log.Step.TheVariants as step
-use Rattle.pol_defs.specs.Nogoods.{Ground, StepView}
+use Rattle.pol_defs.specs.Nogoods.{Basis, StepView}
 
 abbrev pub step_named : Step → StepView
-step_named (step.ByConstraint c nogood refs) = record { ground = Ground.ByConstraint c; nogood = nogood; references = refs }
-step_named (step.ByVariable v nogood refs) = record { ground = Ground.ByVariable v; nogood = nogood; references = refs }
+step_named (step.ByConstraint c nogood refs) = record { basis = Basis.ByConstraint c; nogood = nogood; references = refs }
+step_named (step.ByVariable v nogood refs) = record { basis = Basis.ByVariable v; nogood = nogood; references = refs }
 
 abbrev pub steps_named : List Step → List StepView
 steps_named steps = map step_named steps

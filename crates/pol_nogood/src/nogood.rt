@@ -1,4 +1,5 @@
-ghost use Rattle.std.specs.Prelude.{◌≡◌, ◌<◌, ◌≤◌, ◌↔◌, [], ◌∷◌, ◌++◌, length, take, IsTrue, OnTrue, OnFalse, slice_get, Some};
+ghost use Rattle.std.specs.Prelude.{◌≡◌, ◌<◌, ◌≤◌, ◌↔◌, [], ◌∷◌, ◌++◌, length, take, IsTrue, slice_get, Some};
+ghost use Rattle.std.specs.Bool.{OnTrue, OnFalse};
 ghost use Rattle.pol_defs.specs.Nogoods.{Pair};
 
 use std::marker::Model;
@@ -28,14 +29,14 @@ pub struct Nogood {
 }
 
 impl Model for Nogood {
-    ghost use Rattle.std.specs.Prelude.{◌≤◌, List, take};
+    ghost use Rattle.std.specs.Prelude.{◌≡◌, ◌≤◌, List, length, take};
     ghost use Rattle.pol_defs.specs.Nogoods.{Pair};
 
     ghost Value = { List Pair };
 
     ghost view = { λ n. take n.len n.pairs };
 
-    ghost invariant = { λ n. n.len ≤ 3 };
+    ghost invariant = { λ n. (length n.pairs ≡ 3) × (n.len ≤ 3) };
 }
 
 impl Nogood {
