@@ -1,6 +1,7 @@
 //! Nogoods, deletion logs, and the checker of logs.
 #![tactic(auto)]
 
+mod cases;
 mod checking;
 mod log;
 mod nogood;

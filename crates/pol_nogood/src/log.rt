@@ -21,6 +21,28 @@ pub enum Step {
     },
 }
 
+impl Step {
+    ghost use Rattle.pol_nogood.specs.Steps.{step_named};
+
+    pub fn nogood(&self) -> &Nogood
+        ensures nogood { result.now ≡ (step_named self.now).nogood }
+    {
+        match self {
+            Step::ByConstraint { nogood, .. } => nogood,
+            Step::ByVariable { nogood, .. } => nogood,
+        }
+    }
+
+    pub fn references(&self) -> &[u32]
+        ensures references { result.now ≡ (step_named self.now).references }
+    {
+        match self {
+            Step::ByConstraint { refs, .. } => refs.as_slice(),
+            Step::ByVariable { refs, .. } => refs.as_slice(),
+        }
+    }
+}
+
 /// Steps, numbered from 0, that are to show that an instance has no solution.
 #[derive(Debug, Drop)]
 pub struct Log {

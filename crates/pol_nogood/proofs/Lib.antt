@@ -1,0 +1,2 @@
+pub mod PairWalks
+pub mod CaseWalks

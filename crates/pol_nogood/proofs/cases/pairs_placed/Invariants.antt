@@ -1,0 +1,6 @@
+use Rattle.std.proofs.Common.{◌≡◌, true, take}
+use Rattle.pol_defs.specs.Nogoods.{pairs_placed}
+use Rattle.pol_nogood.proofs.cases.pairs_placed.Given as goal
+
+abbrev pub invariant-loop-i : goal.invariant-loop-i
+invariant-loop-i l = pairs_placed l.n l.d (take l.i l.nogood) ≡ true
