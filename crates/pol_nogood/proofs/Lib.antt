@@ -1,2 +1,3 @@
 pub mod PairWalks
 pub mod CaseWalks
+pub mod StepFaults

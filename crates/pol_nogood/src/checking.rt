@@ -1,4 +1,5 @@
-ghost use Rattle.std.specs.Prelude.{◌≡◌, ℕ, ◌<◌, ◌≤◌, List, [], ◌∷◌, length, drop, take, All, is_some, option_map, IsTrue, OnOk, IfSome, slice_index_or};
+ghost use Rattle.std.specs.Prelude.{◌≡◌, ℕ, ◌<◌, ◌≤◌, List, [], ◌∷◌, length, drop, take, All, nat_lt, is_some, option_map, IsTrue, OnOk, IfSome, slice_index_or};
+ghost use Rattle.std.specs.List.{list_all};
 ghost use Rattle.pol_defs.specs.Instances.{Fits, IsSolution, constraint_of};
 ghost use Rattle.pol_defs.specs.Relations.{rows_of, relation_of};
 ghost use Rattle.pol_defs.specs.Nogoods.{Basis, reading, cases_of, covered, is_placed, step_fault, ends_empty, log_fault};
@@ -60,7 +61,7 @@ fn step_fault(lang: &Language, inst: &Instance, log: &Log, s: u32) -> Option<Why
     if !is_placed(lang, inst, step) {
         return Some(Why::BadPlace);
     }
-    if !references.iter().all(|reference| *reference < s) {
+    if !are_earlier(references, s) {
         return Some(Why::BadReference);
     }
     match covered_cases(lang, inst, log, step) {
@@ -82,6 +83,13 @@ fn is_placed(lang: &Language, inst: &Instance, step: &Step) -> bool
     can_rest
         && pairs_placed(nogood, inst.variables(), lang.domain().size())
         && is_ascending(nogood)
+}
+
+/// Whether each reference is to one of the first `s` steps.
+fn are_earlier(references: &[u32], s: u32) -> bool
+    ensures earlier { result ≡ list_all (λ r. nat_lt r s) references.now }
+{
+    references.iter().all(|reference| *reference < s)
 }
 
 /// The number of cases of the step, where each reference is to a nogood that is contained in that of the
