@@ -9,3 +9,6 @@ mod nogood;
 pub use checking::{LogFault, Why, check_log};
 pub use log::{Log, LogAnswer, Step};
 pub use nogood::Nogood;
+
+#[cfg(test)]
+mod tests;
