@@ -1,11 +1,10 @@
 -- Instances over a language that a constant operation preserves: the constant assignment, or an empty relation.
-use Rattle.std.proofs.Common.{◌≡◌, ◌≢◌, ℕ, ◌<◌, List, [], ◌∷◌, length, map, get_or, replicate, All, Contains, refl, sym, ap, ◌∙◌, subst, inl, inr, ◌⊎◌}
+use Rattle.std.proofs.Common.{◌≡◌, ◌≢◌, ℕ, ◌<◌, List, [], ◌∷◌, length, get_or, replicate, All, Contains, refl, sym, ap, ◌∙◌, subst, inl, inr}
 use Rattle.std.proofs.lemmas.List.{length-replicate, get_or-replicate}
 use Rattle.std.proofs.lemmas.List.Elements.{All-head, All-tail, All-replicate}
-use Rattle.pol_defs.specs.Tuples.{IsTuple}
-use Rattle.pol_defs.specs.Relations.{LanguageView, IsLanguage, rows_of, relation_of, no_relation}
+use Rattle.pol_defs.specs.Relations.{LanguageView, rows_of, relation_of, no_relation}
 use Rattle.pol_defs.specs.Instances.{ConstraintView, InstanceView, FitsAt, Fits, Meets, UsesRows, IsSolution, read_at}
-use Rattle.pol_defs.specs.Classes.{HoldsConstant, ClosedUnder}
+use Rattle.pol_defs.specs.Classes.{ClosedUnder}
 
 read_constant : (n a : ℕ) (scope : List ℕ) → All (λ x. x < n) scope → read_at (replicate n a) scope ≡ replicate (length scope) a
 read_constant n a [] below = refl

@@ -1,9 +1,7 @@
 -- Worked rows, computed by the definitions.
-use Rattle.std.specs.Prelude.{◌≡◌, ℕ, List, [], ◌∷◌, ◌++◌, Some, None, Ok, Err, codes, refl, Result, Option}
-use Rattle.pol_defs.specs.Refusals.{RefusalView}
-use Rattle.pol_defs.specs.Refusals.Word.{NoHeader, BadVersion, Ended, BadLine}
-use Rattle.pol_defs.specs.Files.{Parsed}
-use Rattle.pol_defs.specs.Grammar.{parse, extra, header_line, domain_line, relation_line, begun_relation, with_tuple, tuple_line, language_line, instance_line, with_scope, constraint_line, entry_line}
+use Rattle.std.specs.Prelude.{◌≡◌, ℕ, List, [], ◌∷◌, Ok, Err, codes, refl}
+use Rattle.pol_defs.specs.Refusals.Word.{NoHeader}
+use Rattle.pol_defs.specs.Grammar.{parse, header_line, domain_line, relation_line, begun_relation, with_tuple, tuple_line, language_line, entry_line}
 
 abbrev small : List ℕ
 small = codes "polyanna 1\ndomain 2\nend\n"

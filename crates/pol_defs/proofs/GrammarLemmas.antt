@@ -1,6 +1,6 @@
 -- What the grammar of files says of the place and the line behind a file.
-use Rattle.std.proofs.Common.{◌≡◌, ℕ, suc, ◌+◌, ◌<◌, ◌≤◌, Bool, true, false, cond, List, [], ◌∷◌, length, drop, Result, Ok, Err, refl, sym, ◌∙◌, ap, subst, arith, codes, ◌==◌, ◌++◌, Option}
-use Rattle.std.specs.List.{AllByRecursion, sum_by}
+use Rattle.std.proofs.Common.{◌≡◌, ℕ, suc, ◌+◌, ◌<◌, ◌≤◌, Bool, true, false, cond, List, [], ◌∷◌, length, Result, Ok, Err, refl, subst, arith, codes, ◌==◌}
+use Rattle.std.specs.List.{AllByRecursion}
 use Rattle.pol_defs.specs.Lines.{LineView, lines_of, line_text, tokens_of, is_significant, significant_among, significant_lines, grown}
 use Rattle.pol_defs.specs.Refusals.{Word, RefusalView}
 use Rattle.pol_defs.specs.Files.{FileView, Parsed}

@@ -1,11 +1,11 @@
 -- Texts that the grammar refuses, each with its line and word, computed by the definitions; and one that it accepts.
-use Rattle.std.specs.Prelude.{◌≡◌, ℕ, List, [], ◌∷◌, ◌++◌, None, Some, Ok, Err, codes, refl, Result}
+use Rattle.std.specs.Prelude.{◌≡◌, ℕ, [], ◌∷◌, Ok, Err, codes, refl, Result}
 use Rattle.pol_defs.specs.Refusals.{Word, RefusalView}
 use Rattle.pol_defs.specs.Refusals.Word.{BadArity, BadDomain, BadLine, BadName, BadNumber, BadVersion, Ended, LongTuple, RepeatedName, ShortTuple, SubsetLimit, UnknownRelation, UnknownVariable, ValueOutside}
 use Rattle.std.specs.Fmt.{digits}
 use Rattle.pol_defs.specs.Files.{Parsed}
 use Rattle.pol_defs.specs.Texts.{file_text}
-use Rattle.pol_defs.specs.Grammar.{parse, extra, header_line, domain_line, relation_line, begun_relation, with_tuple, tuple_line, language_line, instance_line, with_scope, constraint_line, entry_line}
+use Rattle.pol_defs.specs.Grammar.{parse, header_line, domain_line, relation_line, begun_relation, with_tuple, tuple_line, language_line, instance_line, with_scope, constraint_line, entry_line}
 
 abbrev refused : ℕ → Word → Result Parsed RefusalView
 refused line word = Err (record { line = line; word = word })

@@ -1,5 +1,5 @@
 -- What a run has to write and how it ends, for the words of the command line and the bytes of the input.
-use Rattle.std.specs.Prelude.{◌≡◌, ℕ, ◌^◌, ◌<◌, ◌≤◌, List, [], ◌∷◌, ◌++◌, length, Option, Some, None, Ok, Err, codes}
+use Rattle.std.specs.Prelude.{◌≡◌, ℕ, ◌^◌, ◌<◌, ◌≤◌, List, [], ◌∷◌, ◌++◌, length, Some, None, Ok, Err, codes}
 use Rattle.pol_defs.specs.Refusals.{RefusalView, refusal_line}
 use Rattle.pol_defs.specs.Refusals.Word.{AfterEnd, TooLong}
 use Rattle.pol_defs.specs.Files.{Parsed}

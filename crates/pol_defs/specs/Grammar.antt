@@ -1,5 +1,5 @@
 -- The grammar of files: which texts are accepted, as which file, and the first refusal of every other text.
-use Rattle.std.specs.Prelude.{ℕ, ◌+◌, ◌-◌, ◌^◌, ◌==◌, nat_lt, nat_le, Bool, not, ◌&&◌, List, [], ◌∷◌, ◌++◌, length, drop, map, Option, Some, None, option_map, Result, Ok, Err, codes, if◌then◌else◌}
+use Rattle.std.specs.Prelude.{ℕ, ◌+◌, ◌-◌, ◌^◌, ◌==◌, nat_lt, nat_le, Bool, not, ◌&&◌, List, [], ◌∷◌, ◌++◌, length, drop, map, Option, Some, None, Result, Ok, Err, codes, if◌then◌else◌}
 use Rattle.pol_defs.specs.Relations.{LanguageView, relation_of, last_of, names_of, is_same, is_among, place_in, has_name, has_row, with_relation, with_last_row}
 use Rattle.pol_defs.specs.Lines.{LineView, lines_of, significant_lines, token_at, number_of, is_name}
 use Rattle.pol_defs.specs.Refusals.{Word, RefusalView}

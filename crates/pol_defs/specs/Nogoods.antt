@@ -1,8 +1,8 @@
 -- Nogoods, and logs that show that an instance has no solution.
-use Rattle.std.specs.Prelude.{◌≡◌, ◌≢◌, ℕ, ◌+◌, ◌≤◌, ◌==◌, nat_lt, Bool, true, false, not, ◌&&◌, ◌||◌, List, [], ◌∷◌, ◌++◌, length, map, filter, Option, Some, None, slice_index, slice_index_or, All, AllPairs, if◌then◌else◌}
+use Rattle.std.specs.Prelude.{◌≡◌, ◌≢◌, ℕ, ◌≤◌, ◌==◌, nat_lt, Bool, true, false, not, ◌&&◌, ◌||◌, List, [], ◌∷◌, ◌++◌, length, map, filter, Option, Some, None, slice_index, slice_index_or, All, AllPairs, if◌then◌else◌}
 use Rattle.std.specs.List.{list_any, list_all, range_with_len}
 use Rattle.pol_defs.specs.Relations.{LanguageView, rows_of}
-use Rattle.pol_defs.specs.Instances.{ConstraintView, InstanceView, constraint_of, IsSolution}
+use Rattle.pol_defs.specs.Instances.{InstanceView, constraint_of, IsSolution}
 
 -- a variable and a value
 pub record Pair : Type 0 where

@@ -1,5 +1,5 @@
 -- How a file is spelled: the tokens of the lines that say it, in a reader's terms.
-use Rattle.std.specs.Prelude.{◌≡◌, ℕ, ◌+◌, true, List, [], ◌∷◌, ◌++◌, map, flat_map, Some, None, Option, codes, slice_index_or, All, Any}
+use Rattle.std.specs.Prelude.{◌≡◌, ℕ, ◌+◌, true, List, [], ◌∷◌, ◌++◌, map, flat_map, Some, codes, slice_index_or, All, Any}
 use Rattle.std.specs.List.{AllZip}
 use Rattle.pol_defs.specs.Relations.{RelationView, LanguageView, name_of}
 use Rattle.pol_defs.specs.Instances.{ConstraintView, InstanceView}
