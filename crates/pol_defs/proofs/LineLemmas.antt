@@ -1,13 +1,13 @@
 -- The lines and tokens of a text, taken one by one from its front.
-use Rattle.std.proofs.Common.{◌≡◌, ◌≢◌, ℕ, zero, suc, inl, inr, cond, ◌+◌, ◌-◌, ◌*◌, ◌^◌, ◌<◌, ◌≤◌, Bool, true, false, not, eqb, List, [], ◌∷◌, ◌++◌, length, get_or, take, drop, map, refl, ap, arith, one-add, ltb, leb, ◌&&◌, Option, Some, None, unwrap_or, length-append, length-drop}
+use Rattle.std.proofs.Common.{◌≡◌, ◌≢◌, ℕ, zero, suc, inl, inr, cond, ◌+◌, ◌-◌, ◌*◌, ◌<◌, ◌≤◌, Bool, true, false, not, eqb, List, [], ◌∷◌, ◌++◌, length, get_or, take, drop, map, refl, ap, arith, one-add, ltb, leb, ◌&&◌, Option, Some, None, unwrap_or, length-drop}
 use Rattle.std.proofs.lemmas.Bool.{cases_Bool, eq-eqb, ne_eqb, eqb-true, leb-true, le-leb, and_parts, not-true, ltb-false}
 use Rattle.std.proofs.lemmas.List.Recursion.{is_count_by}
-use Rattle.std.proofs.Math.Nat.{pow-suc, pow-zero}
 use Rattle.std.proofs.lemmas.List.{nil_from_length, map_more}
 use Rattle.std.specs.Prelude.{count_by}
 use Rattle.std.specs.List.{position_or_len, list_all}
 use Rattle.pol_defs.specs.Tuples.{cell_of}
 use Rattle.pol_defs.specs.Lines.{is_letter, is_name_byte, is_name, is_digit, is_number, grown, lines_of, without_last, is_blank, begins_solid, tokens_of}
+use Rattle.pol_defs.proofs.CellLemmas.{cell_of-push}
 
 -- ---- lines
 
@@ -228,16 +228,6 @@ is_name-bytes (b ∷ bs) rest some is letter few =
     let short : length bs ≤ 31 = rw is at few in
     rw (is, letter, le-leb (length bs) 31 short)
 
-one_more : (y power next cell grown d x : ℕ) → next ≡ power * d → grown ≡ cell * d + x → y * next + grown ≡ (y * power + cell) * d + x
-one_more y power next cell grown d x powers cells = grind arith
-
--- one digit more
-pub cell_of-one_more : (d : ℕ) (xs : List ℕ) (x : ℕ) → cell_of d (xs ++ x ∷ []) ≡ cell_of d xs * d + x
-cell_of-one_more d [] x = rw (pow-zero d) (omega arith)
-cell_of-one_more d (y ∷ xs) x =
-    let long : length (xs ++ x ∷ []) ≡ suc (length xs) = omega (arith, length-append xs (x ∷ [])) in
-    rw long (one_more y (d ^ length xs) (d ^ suc (length xs)) (cell_of d xs) (cell_of d (xs ++ x ∷ [])) d x (pow-suc d (length xs)) (cell_of-one_more d xs x))
-
 -- one digit more of the number that the bytes write
 pub cell_of-digit_more : (bs : List ℕ) (i : ℕ) → i < length bs → cell_of 10 (map (λ b. b - 48) (take (i + 1) bs)) ≡ cell_of 10 (map (λ b. b - 48) (take i bs)) * 10 + (get_or bs i 0 - 48)
-cell_of-digit_more bs i small = rw (map_more (λ b. b - 48) bs i 0 small) (cell_of-one_more 10 (map (λ b. b - 48) (take i bs)) (get_or bs i 0 - 48))
+cell_of-digit_more bs i small = rw (map_more (λ b. b - 48) bs i 0 small) (cell_of-push 10 (map (λ b. b - 48) (take i bs)) (get_or bs i 0 - 48))

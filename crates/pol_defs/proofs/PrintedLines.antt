@@ -9,7 +9,8 @@ use Rattle.std.proofs.Math.Nat.{div-add-mod', mod-lt}
 use Rattle.pol_defs.specs.Tuples.{cell_of}
 use Rattle.pol_defs.specs.Texts.{spaced_texts}
 use Rattle.pol_defs.specs.Lines.{LineView, lines_of, without_last, line_text, is_blank, begins_solid, tokens_of, is_significant, significant_among, is_digit, number_of, is_letter, is_name_byte, is_name}
-use Rattle.pol_defs.proofs.LineLemmas.{without_last-push, cell_of-one_more}
+use Rattle.pol_defs.proofs.CellLemmas.{cell_of-push}
+use Rattle.pol_defs.proofs.LineLemmas.{without_last-push}
 
 -- ---- bytes and tokens
 
@@ -257,7 +258,7 @@ digit_more : (n : ℕ) (ds : List ℕ) → 10 ≤ n → WriteDigits (n / 10) ds 
 digit_more n ds large front =
     let digit = 48 + n % 10 in
     let small : n % 10 < 10 = mod-lt n {m = 10} (omega arith) in
-    let apart = ap (cell_of 10) (map_push (λ b. b - 48) ds digit) ∙ cell_of-one_more 10 (map (λ b. b - 48) ds) (digit - 48) in
+    let apart = ap (cell_of 10) (map_push (λ b. b - 48) ds digit) ∙ cell_of-push 10 (map (λ b. b - 48) ds) (digit - 48) in
     let value = front.value in
     let whole = div-add-mod' n 10 in
     record {
