@@ -4,7 +4,7 @@ use Rattle.std.proofs.lemmas.List.{take_more}
 use Rattle.pol_defs.specs.Nogoods.{Pair, StepView}
 use Rattle.pol_defs.specs.Texts.{spaced}
 use Rattle.pol_defs.specs.Reports.{pairs_text, step_line, steps_text}
-use Rattle.pol_defs.proofs.TextLemmas.{spaced-more}
+use Rattle.pol_defs.proofs.SpacedLemmas.{spaced-more}
 
 -- a space and the next number behind those so far
 pub number_more : (old out mid new numbers : List ℕ) (i n : ℕ) → i < length numbers → n ≡ get_or numbers i 0 → out ≡ old ++ spaced (take i numbers) → mid ≡ out ++ codes " " → new ≡ mid ++ decimal n → new ≡ old ++ spaced (take (i + 1) numbers)

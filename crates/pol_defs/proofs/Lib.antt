@@ -7,7 +7,7 @@ pub mod GrammarLemmas
 pub mod FileLemmas
 pub mod AcceptedLines
 pub mod SpellingLemmas
-pub mod TextLemmas
+pub mod SpacedLemmas
 pub mod ReportLemmas
 pub mod LogExamples
 pub mod RefusedTexts

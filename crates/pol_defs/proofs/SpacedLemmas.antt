@@ -1,4 +1,4 @@
--- Texts that are put together piece by piece.
+-- Numbers that are printed one behind another.
 use Rattle.std.proofs.Common.{◌≡◌, ℕ, List, [], ◌∷◌, ◌++◌, refl, sym, ap, ◌∙◌, append_assoc, append-nil, codes, decimal}
 use Rattle.pol_defs.specs.Texts.{spaced}
 
