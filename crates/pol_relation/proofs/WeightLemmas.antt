@@ -1,9 +1,8 @@
 -- The sums over the relations of a language, a relation at a time, and their bounds.
-use Rattle.std.proofs.Common.{◌≡◌, ℕ, zero, suc, ◌+◌, ◌-◌, ◌*◌, ◌^◌, ◌<◌, ◌≤◌, min, List, [], ◌∷◌, length, take, get_or, All, sym, ap, ◌∙◌, arith}
+use Rattle.std.proofs.Common.{◌≡◌, ℕ, ◌+◌, ◌-◌, ◌^◌, ◌<◌, ◌≤◌, min, List, [], length, take, get_or, sym, ap, ◌∙◌, arith}
 use Rattle.std.proofs.Math.Nat.{pow-le-pow_left, pow-le-pow_right}
 use Rattle.std.proofs.lemmas.List.{take_more}
-use Rattle.std.proofs.lemmas.List.Elements.{All-head, All-tail, All-get_or}
-use Rattle.pol_defs.specs.Relations.{no_relation, IsRelationOver}
+use Rattle.pol_defs.specs.Relations.{no_relation}
 use Rattle.pol_defs.specs.Files.{weight_of, subset_weight_of}
 use Rattle.pol_defs.proofs.RelationLemmas.{Named}
 use Rattle.pol_defs.proofs.FileLemmas.{weight_of-push, subset_weight_of-push}
@@ -25,34 +24,11 @@ pub subset_weight_of-next : (d : ℕ) (relations : List Named) (i : ℕ) → i <
 subset_weight_of-next d relations i inside =
     sym (ap (subset_weight_of d) (take_more relations i ([], no_relation) inside) ∙ subset_weight_of-push d (take i relations) (named_at relations i))
 
--- the vectors of six nonempty sets of five values
-abbrev most_vectors : ℕ
-most_vectors = 887503681
-
-vectors_few : (d n : ℕ) → d ≤ 5 → n ≤ 6 → (2 ^ d - 1) ^ n ≤ most_vectors
+-- six nonempty sets of five values have 31 ^ 6 vectors
+pub vectors_few : (d n : ℕ) → d ≤ 5 → n ≤ 6 → (2 ^ d - 1) ^ n ≤ 887503681
 vectors_few d n few short =
     let sets : 2 ^ d ≤ 2 ^ 5 = pow-le-pow_right {n = 2} (omega arith) {i = d} {j = 5} few in
     let base : 2 ^ d - 1 ≤ 31 = omega (arith, sets) in
     let fewer : (2 ^ d - 1) ^ n ≤ 31 ^ n = pow-le-pow_left {n = 2 ^ d - 1} {m = 31} base n in
     let exponent : 31 ^ n ≤ 31 ^ 6 = pow-le-pow_right {n = 31} (omega arith) {i = n} {j = 6} short in
     omega (arith, fewer, exponent)
-
-subset_weight_few : (d : ℕ) (relations : List Named) (i : ℕ) → d ≤ 5 → All (λ e. IsRelationOver d e.1) relations → subset_weight_of d (take i relations) ≤ i * most_vectors
-subset_weight_few d relations zero few all = omega arith
-subset_weight_few d [] (suc i) few all = omega arith
-subset_weight_few d (e ∷ es) (suc i) few all =
-    let head = All-head (λ f. IsRelationOver d f.1) e es all in
-    let rest = subset_weight_few d es i few (All-tail (λ f. IsRelationOver d f.1) e es all) in
-    let here = vectors_few d e.1.arity few head.is_relation.few_places in
-    omega (arith, rest, here)
-
-pub vectors_few-at : (d : ℕ) (relations : List Named) (i : ℕ) → d ≤ 5 → All (λ e. IsRelationOver d e.1) relations → i < length relations → (2 ^ d - 1) ^ (named_at relations i).1.arity ≤ most_vectors
-vectors_few-at d relations i few all inside =
-    let over = All-get_or (λ e. IsRelationOver d e.1) relations i ([], no_relation) inside all in
-    vectors_few d (named_at relations i).1.arity few over.is_relation.few_places
-
-pub subset_weight_small : (d : ℕ) (relations : List Named) (i : ℕ) → d ≤ 5 → All (λ e. IsRelationOver d e.1) relations → length relations ≤ 4096 → i < length relations → subset_weight_of d (take i relations) + (2 ^ d - 1) ^ (named_at relations i).1.arity < 2 ^ 64
-subset_weight_small d relations i few all numbered inside =
-    let before = subset_weight_few d relations i few all in
-    let here = vectors_few-at d relations i few all inside in
-    omega (arith, before, here, numbered, inside)

@@ -141,12 +141,21 @@ impl Language {
     pub fn subset_weight(&self) -> u64
         ensures sum { result ≡ subset_weight_of self.now.domain self.now.relations }
     {
-        let subsets = 2u64.pow(u32::from(self.domain().size())) - 1;
         let mut weight = 0u64;
         for i in 0..self.len() {
-            weight += subsets.pow(self.relation(i).arity());
+            weight += self.set_vectors(i);
         }
         weight
+    }
+
+    /// How many vectors of nonempty sets of values there are, one set for each place of relation `i`.
+    fn set_vectors(&self, i: u32) -> u64
+        requires known { i < length self.now.relations }
+        ensures vectors { result ≡ (2 ^ self.now.domain - 1) ^ (relation_of self.now i).arity }
+        ensures few { result ≤ 887503681 }
+    {
+        let sets = 2u64.pow(u32::from(self.domain().size())) - 1;
+        sets.pow(self.relation(i).arity())
     }
 
     pub fn domain(&self) -> Domain
