@@ -80,9 +80,7 @@ fn is_placed(lang: &Language, inst: &Instance, step: &Step) -> bool
         Step::ByConstraint { c, .. } => *c < inst.constraints(),
         Step::ByVariable { v, .. } => *v < inst.variables() && !names(nogood, *v),
     };
-    can_rest
-        && pairs_placed(nogood, inst.variables(), lang.domain().size())
-        && is_ascending(nogood)
+    can_rest && pairs_placed(nogood, inst.variables(), lang.domain().size()) && is_ascending(nogood)
 }
 
 /// Whether each reference is to one of the first `s` steps.

@@ -1,4 +1,4 @@
-ghost use Rattle.std.specs.Prelude.{◌≤◌, ◌^◌, length};
+ghost use Rattle.std.specs.Prelude.{◌≡◌, ◌+◌, ◌^◌, ◌≤◌, length, OnOk};
 
 use crate::{Log, LogFault, Nogood, Step, Why, check_log};
 use pol_base::{Domain, NoMemory, Numbers};
@@ -17,9 +17,9 @@ enum By {
 /// A step as it is written: what it rests on, its pairs, its references.
 type Written = (By, &'static [(u32, u8)], &'static [u32]);
 
-/// The triangle of unequal values. Two equal values of a constraint's variables are refuted by the
-/// constraint, and then one variable after another is left out.
-const TRIANGLE: [Written; 11] = [
+/// The log of the triangle of unequal values. Two equal values of a constraint's variables are refuted
+/// by the constraint, and then one variable after another is left out.
+static TRIANGLE: [Written; 11] = [
     (By::Constraint(0), &[(0, 0), (1, 0)], &[]),
     (By::Constraint(0), &[(0, 1), (1, 1)], &[]),
     (By::Constraint(1), &[(1, 0), (2, 0)], &[]),
@@ -33,20 +33,145 @@ const TRIANGLE: [Written; 11] = [
     (By::Variable(0), &[], &[7, 9]),
 ];
 
-const SCOPES: [[u32; 2]; 3] = [[0, 1], [1, 2], [2, 0]];
+/// Steps in place of those with these numbers, and the faults that are there then.
+static CHANGED: [(usize, &'static [Written], Why); 11] = [
+    (
+        0,
+        &[(By::Constraint(3), &[(0, 0), (1, 0)], &[])],
+        Why::BadPlace,
+    ),
+    (
+        0,
+        &[(By::Constraint(0), &[(1, 0), (0, 0)], &[])],
+        Why::BadPlace,
+    ),
+    (
+        0,
+        &[(By::Constraint(0), &[(0, 2), (1, 0)], &[])],
+        Why::BadPlace,
+    ),
+    (0, &[(By::Constraint(0), &[], &[])], Why::WrongCount),
+    (
+        6,
+        &[(By::Variable(3), &[(0, 0), (2, 1)], &[0, 3])],
+        Why::BadPlace,
+    ),
+    (
+        6,
+        &[(By::Variable(1), &[(0, 0), (2, 1)], &[0, 10])],
+        Why::BadReference,
+    ),
+    (
+        6,
+        &[(By::Variable(1), &[(0, 0), (2, 1)], &[0, 6])],
+        Why::BadReference,
+    ),
+    (
+        6,
+        &[(By::Variable(1), &[(0, 0), (2, 1)], &[3, 0])],
+        Why::NotContained,
+    ),
+    (
+        6,
+        &[(By::Variable(1), &[(0, 0), (2, 1)], &[0])],
+        Why::WrongCount,
+    ),
+    (
+        6,
+        &[(By::Variable(1), &[(0, 0), (2, 1)], &[0, 3, 0])],
+        Why::WrongCount,
+    ),
+    (7, &[(By::Variable(0), &[(0, 0)], &[4, 6])], Why::BadPlace),
+];
 
-fn nogood_of(pairs: &[(u32, u8)]) -> Nogood {
-    let mut nogood = Nogood::new();
-    for (variable, value) in pairs {
-        nogood.push(*variable, *value);
-    }
-    nogood
+fn triangle() -> &'static [Written]
+    ensures steps { length result.now ≡ 11 }
+{
+    &TRIANGLE
 }
 
-fn log_of(alloc: Global, steps: &[Written]) -> Result<Log, NoMemory>
-    requires few { length steps.now ≤ 2 ^ 31 }
-{
+fn changed_steps() -> &'static [(usize, &'static [Written], Why)] {
+    &CHANGED
+}
+
+#[test]
+fn a_changed_step_has_its_fault(rt: HostRuntime) -> Result<(), Fail> {
+    let steps = triangle();
+    for (place, step, why) in changed_steps() {
+        assert!(rt; *place < steps.len());
+        let (before, behind) = (&steps[..*place], &steps[*place + 1..]);
+        let answer = checked(&rt, rt.alloc(), 3, before, step, behind)?;
+        assert_eq!(rt; answer, fault(*place as u32, *why), "at {place}");
+    }
+    Ok(())
+}
+
+#[test]
+fn a_log_ends_with_the_empty_nogood(rt: HostRuntime) -> Result<(), Fail> {
+    let steps = triangle();
+    let (front, last) = steps.split_at(10);
+    let nothing = checked(&rt, rt.alloc(), 3, &[], &[], &[])?;
+    assert_eq!(rt; nothing, fault(0, Why::NoEmptyEnd));
+    let shortened = checked(&rt, rt.alloc(), 3, front, &[], &[])?;
+    assert_eq!(rt; shortened, fault(10, Why::NoEmptyEnd));
+    let whole = checked(&rt, rt.alloc(), 3, front, last, &[])?;
+    assert_eq!(rt; whole, Ok(()));
+    let longer = checked(&rt, rt.alloc(), 3, front, last, last)?;
+    assert_eq!(rt; longer, Ok(()));
+    Ok(())
+}
+
+#[test]
+fn two_constraints_are_not_refuted_by_the_log(rt: HostRuntime) -> Result<(), Fail> {
+    let answer = checked(&rt, rt.alloc(), 2, triangle(), &[], &[])?;
+    assert_eq!(rt; answer, fault(4, Why::BadPlace));
+    Ok(())
+}
+
+fn fault(step: u32, why: Why) -> Result<(), LogFault> {
+    Err(LogFault { step, why })
+}
+
+/// Checks the log of these steps, one list behind another, for the first constraints of the triangle.
+fn checked(
+    rt: &impl Abort,
+    alloc: Global,
+    constraints: usize,
+    before: &[Written],
+    step: &[Written],
+    behind: &[Written],
+) -> Result<Result<(), LogFault>, Fail> {
+    let d = Domain::new(2).expect(rt, "two values");
+    let mut language = Language::new(alloc, d);
+    language.add(b"neq", Relation::from_rows(alloc, d, 2, &[0, 1, 1, 0])?)?;
+    let instance = triangle_of(rt, alloc, constraints)?;
+    assert!(rt; instance.fits(&language));
     let mut log = Log::new(alloc);
+    assert!(rt; before.len() < 100 && step.len() < 100 && behind.len() < 100);
+    push_steps(alloc, &mut log, before)?;
+    push_steps(alloc, &mut log, step)?;
+    push_steps(alloc, &mut log, behind)?;
+    Ok(check_log(&language, &instance, &log))
+}
+
+fn triangle_of(rt: &impl Abort, alloc: Global, constraints: usize) -> Result<Instance, Fail> {
+    let mut instance = Instance::new(alloc, b"tri")?;
+    for name in [b"x", b"y", b"z"] {
+        assert!(rt; instance.variables() < 3);
+        instance.add_variable(name)?;
+    }
+    for scope in [[0, 1], [1, 2], [2, 0]].iter().take(constraints) {
+        assert!(rt; instance.constraints() < 3);
+        assert!(rt; scope[0] < instance.variables() && scope[1] < instance.variables());
+        instance.add_constraint(0, scope)?;
+    }
+    Ok(instance)
+}
+
+fn push_steps(alloc: Global, log: &mut Log, steps: &[Written]) -> Result<(), NoMemory>
+    requires few { length log.old + length steps.now ≤ 2 ^ 31 }
+    ensures ok { OnOk result (length log.new ≡ length log.old + length steps.now) }
+{
     for (by, pairs, references) in steps {
         let nogood = nogood_of(pairs);
         let refs = Numbers::from_slice(alloc, references)?;
@@ -55,79 +180,13 @@ fn log_of(alloc: Global, steps: &[Written]) -> Result<Log, NoMemory>
             By::Variable(v) => Step::ByVariable { v, nogood, refs },
         })?;
     }
-    Ok(log)
-}
-
-/// Checks the log for the instance of three variables on two values that are unequal at the scopes.
-fn checked(
-    rt: &impl Abort,
-    alloc: Global,
-    scopes: &[[u32; 2]],
-    steps: &[Written],
-) -> Result<Result<(), LogFault>, Fail> {
-    let d = Domain::new(2).expect(rt, "two values");
-    let mut language = Language::new(alloc, d);
-    language.add(b"neq", Relation::from_rows(alloc, d, 2, &[0, 1, 1, 0])?)?;
-    let mut instance = Instance::new(alloc, b"tri")?;
-    for name in [b"x", b"y", b"z"] {
-        assert!(rt; instance.variables() < 3);
-        instance.add_variable(name)?;
-    }
-    for scope in scopes {
-        assert!(rt; instance.constraints() < 3);
-        assert!(rt; scope[0] < instance.variables() && scope[1] < instance.variables());
-        instance.add_constraint(0, scope)?;
-    }
-    assert!(rt; instance.fits(&language));
-    assert!(rt; steps.len() <= TRIANGLE.len());
-    let log = log_of(alloc, steps)?;
-    Ok(check_log(&language, &instance, &log))
-}
-
-/// Steps of the triangle's log that were changed, each with the fault that is there then.
-const CHANGED: [(usize, Written, Why); 11] = [
-    (0, (By::Constraint(3), &[(0, 0), (1, 0)], &[]), Why::BadPlace),
-    (0, (By::Constraint(0), &[(1, 0), (0, 0)], &[]), Why::BadPlace),
-    (0, (By::Constraint(0), &[(0, 2), (1, 0)], &[]), Why::BadPlace),
-    (0, (By::Constraint(0), &[], &[]), Why::WrongCount),
-    (6, (By::Variable(3), &[(0, 0), (2, 1)], &[0, 3]), Why::BadPlace),
-    (6, (By::Variable(1), &[(0, 0), (2, 1)], &[0, 10]), Why::BadReference),
-    (6, (By::Variable(1), &[(0, 0), (2, 1)], &[0, 6]), Why::BadReference),
-    (6, (By::Variable(1), &[(0, 0), (2, 1)], &[3, 0]), Why::NotContained),
-    (6, (By::Variable(1), &[(0, 0), (2, 1)], &[0]), Why::WrongCount),
-    (6, (By::Variable(1), &[(0, 0), (2, 1)], &[0, 3, 0]), Why::WrongCount),
-    (7, (By::Variable(0), &[(0, 0)], &[4, 6]), Why::BadPlace),
-];
-
-#[test]
-fn a_changed_step_has_its_fault(rt: HostRuntime) -> Result<(), Fail> {
-    for (place, step, why) in CHANGED {
-        let mut steps = TRIANGLE;
-        assert!(rt; place < steps.len());
-        steps[place] = step;
-        let answer = checked(&rt, rt.alloc(), &SCOPES, &steps)?;
-        assert_eq!(rt; answer, fault(place as u32, why), "at {place}");
-    }
     Ok(())
 }
 
-#[test]
-fn a_log_ends_with_the_empty_nogood(rt: HostRuntime) -> Result<(), Fail> {
-    let nothing = checked(&rt, rt.alloc(), &SCOPES, &[])?;
-    assert_eq!(rt; nothing, fault(0, Why::NoEmptyEnd));
-    let shortened = checked(&rt, rt.alloc(), &SCOPES, &TRIANGLE[..10])?;
-    assert_eq!(rt; shortened, fault(10, Why::NoEmptyEnd));
-    assert_eq!(rt; checked(&rt, rt.alloc(), &SCOPES, &TRIANGLE)?, Ok(()));
-    Ok(())
-}
-
-#[test]
-fn a_path_is_not_refuted_by_the_log_of_the_triangle(rt: HostRuntime) -> Result<(), Fail> {
-    let answer = checked(&rt, rt.alloc(), &SCOPES[..2], &TRIANGLE)?;
-    assert_eq!(rt; answer, fault(4, Why::BadPlace));
-    Ok(())
-}
-
-fn fault(step: u32, why: Why) -> Result<(), LogFault> {
-    Err(LogFault { step, why })
+fn nogood_of(pairs: &[(u32, u8)]) -> Nogood {
+    let mut nogood = Nogood::new();
+    for (variable, value) in pairs {
+        nogood.push(*variable, *value);
+    }
+    nogood
 }
