@@ -1,4 +1,4 @@
-use Rattle.std.proofs.Common.{◌≡◌, None, Some, length, ◌∙◌, sym, arith}
+use Rattle.std.proofs.Common.{None, Some, length, ◌∙◌, sym, arith}
 use Rattle.std.proofs.lemmas.Bool.{cond-true}
 use Rattle.pol_defs.specs.Nogoods.{Why, ends_empty}
 use Rattle.pol_defs.proofs.LogFaults.{past_all}

@@ -1,5 +1,5 @@
-use Rattle.std.proofs.Common.{◌≡◌, ◌<◌, length, sym, ◌∙◌, subst, rules, arith}
-use Rattle.pol_nogood.proofs.CaseWalks.{IsRowWalk, rows-next, rows-fault, rows-skip, rows-covered, rows-count}
+use Rattle.std.proofs.Common.{◌<◌, length, sym, ◌∙◌, arith}
+use Rattle.pol_nogood.proofs.CaseWalks.{rows-next, rows-skip}
 use Rattle.pol_nogood.proofs.checking.covered_rows.Goals as goal
 use Rattle.pol_nogood.proofs.checking.covered_rows.Goals.{then-is_case+else-not-is_covered, else-is_case}
 

@@ -1,4 +1,4 @@
-use Rattle.std.proofs.Common.{sym, ◌∙◌, arith}
+use Rattle.std.proofs.Common.{sym, ◌∙◌}
 use Rattle.pol_nogood.proofs.CaseWalks.{values-next}
 use Rattle.pol_nogood.proofs.checking.covered_values.Goals as goal
 
