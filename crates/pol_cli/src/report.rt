@@ -1,5 +1,6 @@
 ghost use Rattle.std.specs.Prelude.{Some, OnOk, IfOk};
 ghost use Rattle.pol_defs.specs.Classes.{ConstantLine};
+ghost use Rattle.pol_defs.specs.Relations.{IsLanguage};
 ghost use Rattle.pol_defs.specs.Instances.{Fits};
 ghost use Rattle.pol_defs.specs.Reports.{IsReport, HasItems, item_count};
 ghost use Rattle.pol_cli.specs.Items.{AppendsItem};
@@ -50,6 +51,7 @@ fn put_instance(
     inst: &Instance,
     line: &Option<Values>,
 ) -> Result<(), NoMemory>
+    requires language { IsLanguage lang.now }
     requires fits { Fits lang.now inst.now }
     requires line { ConstantLine lang.now line.now }
     ensures item { OnOk result (AppendsItem lang.now inst.now text.old text.new) }
@@ -68,6 +70,7 @@ fn put_answer(
     inst: &Instance,
     cells: &[u8],
 ) -> Result<(), NoMemory>
+    requires language { IsLanguage lang.now }
     requires fits { Fits lang.now inst.now }
     requires line { ConstantLine lang.now (Some cells.now) }
     ensures item { OnOk result (AppendsItem lang.now inst.now text.old text.new) }
