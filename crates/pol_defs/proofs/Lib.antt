@@ -25,3 +25,5 @@ pub mod PrintedLines
 pub mod PrintedFiles
 pub mod PrintedEntries
 pub mod ReadAgain
+pub mod LimitLemmas
+pub mod TextLemmas

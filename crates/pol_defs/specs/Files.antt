@@ -1,5 +1,5 @@
 -- Files: a language within the limits, and instances over it.
-use Rattle.std.specs.Prelude.{◌≡◌, ◌≢◌, ℕ, ◌+◌, ◌-◌, ◌^◌, ◌≤◌, true, List, [], ◌∷◌, ◌++◌, length, slice_index_or, All, AllPairs}
+use Rattle.std.specs.Prelude.{◌≡◌, ◌≢◌, ℕ, ◌+◌, ◌-◌, ◌^◌, ◌<◌, ◌≤◌, true, List, [], ◌∷◌, ◌++◌, length, map, slice_index_or, All, AllPairs, Contains}
 use Rattle.pol_defs.specs.Relations.{RelationView, LanguageView, IsLanguage}
 use Rattle.pol_defs.specs.Instances.{ConstraintView, InstanceView, IsInstance, Fits, with_constraint}
 use Rattle.pol_defs.specs.Lines.{is_name}
@@ -62,6 +62,12 @@ last_instance file = instance_of file (length file.instances - 1)
 -- the file with a further instance, the last
 abbrev pub with_instance : FileView → InstanceView → FileView
 with_instance file inst = record { language = file.language; instances = file.instances ++ inst ∷ [] }
+
+-- the instance fits the file's language, its name is new, and there is room for it
+pub record CanTake (file : FileView) (inst : InstanceView) : Type 0 where
+  pub is_file_instance : IsFileInstance file.language inst
+  pub new_name : Contains (map (λ i. i.name) file.instances) inst.name → ⊥
+  pub room : length file.instances < 8
 
 -- the last instance has the constraint too
 abbrev pub with_constraint_at_last : ConstraintView → List InstanceView → List InstanceView

@@ -1,5 +1,5 @@
 -- What a look-up of a relation's name says.
-use Rattle.std.proofs.Common.{◌≡◌, ℕ, ◌<◌, Bool, true, false, List, [], length, map, get_or, Option, Some, None, Contains, refl, sym, ◌∙◌, arith}
+use Rattle.std.proofs.Common.{◌≡◌, ℕ, ◌<◌, Bool, true, false, List, [], length, Option, Some, None, Contains, refl, sym, ◌∙◌, arith}
 use Rattle.std.proofs.lemmas.Bool.{false≢true}
 use Rattle.std.specs.Prelude.{IfSome, IfNone, is_some, Decides, IsTrue, ◌↔◌}
 use Rattle.std.proofs.lemmas.List.{get_or-map, length-map}

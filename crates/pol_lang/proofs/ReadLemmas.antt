@@ -1,5 +1,5 @@
 -- What follows for a file that was read.
-use Rattle.std.proofs.Common.{◌≡◌, ℕ, ◌+◌, ◌≤◌, List, length, Result, Ok, Err}
+use Rattle.std.proofs.Common.{ℕ, ◌+◌, ◌≤◌, List, length, Result, Ok, Err}
 use Rattle.std.specs.Prelude.{IfOk}
 use Rattle.pol_text.specs.declared.refusal.ReadFail.{ReadFail}
 use Rattle.pol_defs.specs.Lines.{significant_lines}

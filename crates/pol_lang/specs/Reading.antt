@@ -1,5 +1,5 @@
 -- What a call that reads has to do with the definition of what it reads.
-use Rattle.std.specs.Prelude.{◌≡◌, ℕ, ⊤, Result, Ok, Err}
+use Rattle.std.specs.Prelude.{◌≡◌, ⊤, Result, Ok, Err}
 use Rattle.pol_text.specs.declared.word.Word.{Word as Written}
 use Rattle.pol_text.specs.declared.refusal.ReadFail.{ReadFail}
 use Rattle.pol_text.specs.declared.refusal.ReadFail.TheVariants as read_fail

@@ -1,32 +1,226 @@
-ghost use Rattle.std.specs.Prelude.{◌≡◌};
-ghost use Rattle.pol_defs.specs.Files.{FileView};
+ghost use Rattle.std.specs.Prelude.{◌≡◌, ◌+◌, ◌-◌, ◌<◌, ◌≤◌, ◌^◌, ◌↔◌, List, [], ◌∷◌, ◌++◌, length, Contains, true, Err, IfSome, IfNone, OnSome, OnOk, OnErr, IsErrOf, IsTrue};
+ghost use Rattle.pol_defs.specs.Tuples.{IsTuple};
+ghost use Rattle.pol_defs.specs.Relations.{last_of, names_of, with_relation, with_last_row};
+ghost use Rattle.pol_defs.specs.Instances.{FitsAt};
+ghost use Rattle.pol_defs.specs.Lines.{is_name};
+ghost use Rattle.pol_defs.specs.Files.{FileView, IsFile, IsFileLanguage, CanTake, weight_of, subset_weight_of, most_weight, instance_of, last_instance, with_instance, with_last_constraint};
+ghost use Rattle.pol_defs.specs.Grammar.{begun_file, instance_names};
 
-use pol_relation::Language;
+use crate::limits::{MOST_INSTANCES, is_file_instance, is_file_language};
+use pol_base::{Domain, NoMemory};
+use pol_relation::{AddFault, Instance, Language, Relation};
+use std::alloc::Global;
 use std::marker::Model;
 
-/// What a text of version 1 holds: a constraint language.
+/// What a text of version 1 holds: a language within the limits, and instances over it.
 #[derive(Drop)]
 pub struct File {
     language: Language,
+    instances: Vec<Instance>,
 }
 
 impl Model for File {
     ghost Value = { FileView };
 
-    ghost view = { λ f. record { language = f.language } };
+    ghost view = { λ f. record { language = f.language; instances = f.instances.items } };
+
+    ghost invariant = { λ f. IsFile (record { language = f.language; instances = f.instances.items }) };
+}
+
+/// Why an instance was not added.
+#[derive(Clone, Copy, Debug, PartialEq, Eq)]
+pub enum FileFault {
+    Unfit,
+    NoMemory,
+}
+
+impl From<NoMemory> for FileFault {
+    ghost use Rattle.std.specs.Prelude.{◌≡◌};
+    ghost use Rattle.pol_lang.specs.declared.file.FileFault.TheVariants.{NoMemory as OutOfMemory};
+
+    ghost from_gives = { λ _ e. e ≡ OutOfMemory };
+
+    fn from(_error: NoMemory) -> FileFault {
+        FileFault::NoMemory
+    }
 }
 
 impl File {
-    pub(crate) fn of(language: Language) -> File
-        ensures language { result ≡ record { language = language } }
+    /// The file of the language without instances. None exactly where the language exceeds a limit
+    /// or one of its relations has no name; the language is then dropped. Takes no memory.
+    pub fn new(alloc: Global, lang: Language) -> Option<File>
+        ensures made { IfSome result (λ file. file ≡ record { language = lang; instances = [] }) }
+        ensures fits { OnSome result (IsFileLanguage lang) }
+        ensures none { IfNone result (IsFileLanguage lang → ⊥) }
     {
-        File { language }
+        if !is_file_language(&lang) {
+            return None;
+        }
+        Some(File {
+            language: lang,
+            instances: Vec::new(alloc),
+        })
+    }
+
+    /// Adds an instance. `Unfit` exactly where it does not fit the language, exceeds a limit, has a name
+    /// or a variable that is no name, has the name of an instance that is there, or the file is full.
+    /// An instance that is not added is dropped.
+    pub fn add(&mut self, inst: Instance) -> Result<(), FileFault>
+        ensures ok { OnOk result (self.new ≡ with_instance self.old inst) }
+        ensures unfit { IsErrOf result FileFault.Unfit → CanTake self.old inst → ⊥ }
+        ensures fits { (result ≡ Err FileFault.Unfit → ⊥) → CanTake self.old inst }
+        ensures err { OnErr result (self.new ≡ self.old) }
+    {
+        if !self.can_take(&inst) {
+            return Err(FileFault::Unfit);
+        }
+        self.push(inst)?;
+        Ok(())
+    }
+
+    /// Whether the instance fits, its name is new, and there is room for it.
+    fn can_take(&self, inst: &Instance) -> bool
+        ensures can_take { IsTrue result ↔ CanTake self.now inst.now }
+    {
+        if MOST_INSTANCES <= self.instances() {
+            return false;
+        }
+        if self.find_instance(inst.name()).is_some() {
+            return false;
+        }
+        is_file_instance(self.lang(), inst)
+    }
+
+    /// The file without relations and instances. Takes no memory.
+    pub(crate) fn begin(alloc: Global, d: Domain) -> File
+        ensures begun { result ≡ begun_file d }
+    {
+        let _size = d.size();
+        File {
+            language: Language::new(alloc, d),
+            instances: Vec::new(alloc),
+        }
     }
 
     pub fn lang(&self) -> &Language
         ensures language { result.now ≡ self.now.language }
+        ensures file { IsFile self.now }
     {
         &self.language
+    }
+
+    /// How many instances there are.
+    pub fn instances(&self) -> u32
+        ensures count { result ≡ length self.now.instances }
+        ensures few { result ≤ 8 }
+        ensures file { IsFile self.now }
+    {
+        self.instances.len() as u32
+    }
+
+    /// The instance with the number `i`.
+    pub fn instance(&self, i: u32) -> &Instance
+        requires known { i < length self.now.instances }
+        ensures instance { result.now ≡ instance_of self.now i }
+    {
+        &self.instances[i as usize]
+    }
+
+    /// The instance that was added last.
+    pub(crate) fn last_instance(&self) -> &Instance
+        requires some { 0 < length self.now.instances }
+        ensures instance { result.now ≡ last_instance self.now }
+    {
+        self.instance(self.instances() - 1)
+    }
+
+    /// The number of the instance that has the name.
+    pub fn find_instance(&self, name: &[u8]) -> Option<u32>
+        ensures known { IfSome result (λ i. i < length self.now.instances) }
+        ensures found { IfSome result (λ i. (instance_of self.now i).name ≡ name.now) }
+        ensures none { IfNone result (Contains (instance_names self.now) name.now → ⊥) }
+    {
+        for i in 0..self.instances() {
+            if self.instance(i).name() == name {
+                return Some(i);
+            }
+        }
+        None
+    }
+
+    /// Adds a relation without rows under a name that is not there.
+    pub(crate) fn begin_relation(
+        &mut self,
+        alloc: Global,
+        name: &[u8],
+        arity: u32,
+    ) -> Result<(), NoMemory>
+        requires no_instances { length self.old.instances ≡ 0 }
+        requires name { is_name name.now ≡ true }
+        requires new_name { Contains (names_of self.old.language) name.now → ⊥ }
+        requires some_places { 1 ≤ arity }
+        requires few_places { arity ≤ 6 }
+        requires room { length self.old.language.relations < 32 }
+        requires few_subsets { subset_weight_of self.old.language.domain self.old.language.relations + (2 ^ self.old.language.domain - 1) ^ arity ≤ most_weight }
+        ensures ok { OnOk result (self.new ≡ record { language = with_relation self.old.language name.now (record { domain = self.old.language.domain; arity = arity; rows = [] }); instances = self.old.instances }) }
+        ensures err { OnErr result (self.new ≡ self.old) }
+    {
+        let relation = Relation::new(alloc, self.language.domain(), arity);
+        add_relation(&mut self.language, name, relation)?;
+        Ok(())
+    }
+
+    /// Adds a tuple that is not there to the last relation.
+    pub(crate) fn insert(&mut self, tuple: &[u8]) -> Result<(), NoMemory>
+        requires no_instances { length self.old.instances ≡ 0 }
+        requires some { 0 < length self.old.language.relations }
+        requires tuple { IsTuple (last_of self.old.language).domain (last_of self.old.language).arity tuple.now }
+        requires new_tuple { Contains (last_of self.old.language).rows tuple.now → ⊥ }
+        requires few_tuples { length (last_of self.old.language).rows < 128 }
+        requires few_triples { weight_of 3 (with_last_row self.old.language tuple.now).relations ≤ most_weight }
+        ensures ok { OnOk result (self.new ≡ record { language = with_last_row self.old.language tuple.now; instances = self.old.instances }) }
+        ensures err { OnErr result (self.new ≡ self.old) }
+    {
+        self.language.insert(tuple)?;
+        Ok(())
+    }
+
+    /// Adds an instance that the file can take.
+    pub(crate) fn push(&mut self, inst: Instance) -> Result<(), NoMemory>
+        requires can_take { CanTake self.old inst }
+        ensures ok { OnOk result (self.new ≡ with_instance self.old inst) }
+        ensures err { OnErr result (self.new ≡ self.old) }
+    {
+        self.instances.push(inst)?;
+        Ok(())
+    }
+
+    /// Adds a constraint to the last instance.
+    pub(crate) fn add_constraint(&mut self, relation: u32, scope: &[u32]) -> Result<(), NoMemory>
+        requires some { 0 < length self.old.instances }
+        requires fits { FitsAt self.old.language (length (last_instance self.old).variables) (record { relation = relation; scope = scope.now }) }
+        requires room { length (last_instance self.old).constraints < 256 }
+        ensures ok { OnOk result (self.new ≡ with_last_constraint self.old (record { relation = relation; scope = scope.now })) }
+        ensures err { OnErr result (self.new ≡ self.old) }
+    {
+        let last = self.instances() - 1;
+        let inst = &mut self.instances[last as usize];
+        inst.add_constraint(relation, scope)?;
+        Ok(())
+    }
+}
+
+/// Adds the relation under a name that is not there.
+fn add_relation(language: &mut Language, name: &[u8], relation: Relation) -> Result<(), NoMemory>
+    requires new_name { Contains (names_of language.old) name.now → ⊥ }
+    requires domain { relation.domain ≡ language.old.domain }
+    requires room { length language.old.relations < 4096 }
+    ensures ok { OnOk result (language.new ≡ with_relation language.old name.now relation) }
+    ensures err { OnErr result (language.new ≡ language.old) }
+{
+    match language.add(name, relation) {
+        Ok(_) | Err(AddFault::Repeated) => Ok(()),
+        Err(AddFault::NoMemory) => Err(NoMemory),
     }
 }
 
@@ -36,4 +230,41 @@ impl File {
 pub struct Rest {
     pub place: usize,
     pub line: u32,
+}
+
+#[cfg(test)]
+mod tests {
+    use super::*;
+    use std::test::Fail;
+
+    #[test]
+    fn takes_one_instance_of_a_name(rt: HostRuntime) -> Result<(), Fail> {
+        let alloc = rt.alloc();
+        let d = Domain::new(2).expect(&rt, "two values");
+        let mut file = File::new(alloc, Language::new(alloc, d)).expect(&rt, "no relations");
+        for answer in [Ok(()), Err(FileFault::Unfit)] {
+            let mut inst = Instance::new(alloc, b"i")?;
+            inst.add_variable(b"x")?;
+            assert_eq!(rt; file.add(inst), answer);
+            assert_eq!(rt; file.find_instance(b"i"), Some(0));
+        }
+        assert_eq!(rt; file.instances(), 1);
+        Ok(())
+    }
+
+    #[test]
+    fn names_begin_with_a_letter(rt: HostRuntime) -> Result<(), Fail> {
+        let alloc = rt.alloc();
+        let d = Domain::new(2).expect(&rt, "two values");
+        for (name, is_file) in [(b"r1".as_slice(), true), (b"1r".as_slice(), false)] {
+            let mut language = Language::new(alloc, d);
+            language.add(name, Relation::new(alloc, d, 1))?;
+            assert_eq!(rt;
+                File::new(alloc, language).is_some(),
+                is_file,
+                "at {name:?}"
+            );
+        }
+        Ok(())
+    }
 }

@@ -1,10 +1,16 @@
-//! Files: a constraint language, read from a text.
+//! Files: a constraint language and instances over it, read from a text and written as one.
 #![tactic(auto)]
 
+mod draft;
 mod entries;
 mod file;
+mod instance_lines;
+mod language_lines;
+mod limits;
 mod line_fail;
 mod reading;
+mod writing;
 
-pub use file::{File, Rest};
+pub use file::{File, FileFault, Rest};
 pub use reading::{nothing_more, read_file};
+pub use writing::put_file;

@@ -4,10 +4,10 @@ ghost use Rattle.pol_defs.specs.Grammar.{parse, extra, rest_of_file};
 ghost use Rattle.pol_defs.specs.Spelling.{IsSpelled};
 ghost use Rattle.pol_lang.specs.Reading.{Reads, parsed_of};
 
+use crate::draft::Draft;
 use crate::entries::{begins_with, domain_line, end_line, entry_line, header_line};
-use crate::file::{File, Rest};
 use crate::line_fail::LineFail;
-use pol_relation::Language;
+use crate::{File, Rest};
 use pol_text::{Lines, ReadFail, Refusal, Word, count_lines, significant};
 use std::alloc::Global;
 
@@ -34,26 +34,26 @@ pub fn read_file(alloc: Global, bytes: &[u8]) -> Result<(File, Rest), ReadFail>
         return Err(ended(bytes, Word::Ended));
     };
     match domain_line(&second) {
-        Ok(d) => rest_of_file(alloc, Language::new(alloc, d), bytes, lines),
+        Ok(d) => rest_of_file(alloc, Draft::new(alloc, d), bytes, lines),
         Err(word) => Err(refused(second.number(), word)),
     }
 }
 
-/// The relations and the `end` line, read into the language.
+/// The entries and the `end` line, read into the draft.
 fn rest_of_file(
     alloc: Global,
-    mut language: Language,
+    mut draft: Draft,
     bytes: &[u8],
     mut lines: Lines<'_>,
 ) -> Result<(File, Rest), ReadFail>
     requires few { length bytes.now ≤ 2 ^ 28 }
-    ensures reads { Reads parsed_of result (rest_of_file language (length (lines_of bytes.now) + 1) lines.entry) }
+    ensures reads { Reads parsed_of result (rest_of_file draft (length (lines_of bytes.now) + 1) lines.entry) }
 {
     while let Some(line) = lines.next() {
         if begins_with(&line, b"end") {
             return match end_line(&line) {
                 Ok(_) => Ok((
-                    File::of(language),
+                    draft.into_file(),
                     Rest {
                         place: line.after(),
                         line: line.next_number(),
@@ -62,7 +62,7 @@ fn rest_of_file(
                 Err(word) => Err(refused(line.number(), word)),
             };
         }
-        match entry_line(alloc, &mut language, &line) {
+        match entry_line(alloc, &mut draft, &line) {
             Ok(()) => {}
             Err(LineFail::Refused(word)) => return Err(refused(line.number(), word)),
             Err(LineFail::NoMemory) => return Err(ReadFail::NoMemory),

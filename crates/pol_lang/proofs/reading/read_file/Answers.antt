@@ -1,6 +1,5 @@
 use Rattle.std.proofs.Common.{rules}
 use Rattle.pol_defs.specs.Grammar.{parse}
-use Rattle.pol_lang.specs.Reading.{Reads, parsed_of}
 use Rattle.pol_lang.proofs.ReadLemmas.{read_spelled, read_place, read_line}
 use Rattle.pol_lang.proofs.reading.read_file.Goals as goal
 

@@ -8,5 +8,5 @@ abbrev pub invariant-loop-line : goal.invariant-loop-line
 invariant-loop-line l = record {
   can : (goal.iterator-loop-line).can_next l.lines;
   ends : (goal.iterator-loop-line).is_finite l.lines;
-  same : rest_of_file l.language (length (lines_of l.bytes) + 1) l.lines ≡ rest_of_file l.initial.language (length (lines_of l.bytes) + 1) l.initial.lines;
+  same : rest_of_file l.draft (length (lines_of l.bytes) + 1) l.lines ≡ rest_of_file l.initial.draft (length (lines_of l.bytes) + 1) l.initial.lines;
 }

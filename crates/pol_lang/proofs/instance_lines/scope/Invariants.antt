@@ -1,0 +1,12 @@
+use Rattle.std.proofs.Common.{◌≡◌}
+use Rattle.pol_defs.specs.Grammar.{scope_of}
+use Rattle.pol_lang.proofs.ValueLemmas.{with_front}
+use Rattle.pol_lang.proofs.instance_lines.scope.Given as goal
+
+-- the numbers so far, and those that are left, are those of all tokens
+abbrev pub invariant-loop-token : goal.invariant-loop-token
+invariant-loop-token l = record {
+  can : (goal.iterator-loop-token).can_next l.token-iterator;
+  ends : (goal.iterator-loop-token).is_finite l.token-iterator;
+  same : with_front l.scope (scope_of l.inst.variables l.token-iterator) ≡ scope_of l.inst.variables l.fn.tokens;
+}

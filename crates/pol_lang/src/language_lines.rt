@@ -1,0 +1,159 @@
+ghost use Rattle.std.specs.Prelude.{◌≡◌, ◌-◌, ◌<◌, ◌≤◌, length, drop, true, false, IfOk};
+ghost use Rattle.pol_defs.specs.Tuples.{IsTuple};
+ghost use Rattle.pol_defs.specs.Relations.{last_of, names_of, has_name, has_row};
+ghost use Rattle.pol_defs.specs.Lines.{is_name};
+ghost use Rattle.pol_defs.specs.Grammar.{begun_relation, relation_line, tuple_line, with_tuple, language_line, in_language, values_of};
+ghost use Rattle.pol_lang.specs.Reading.{Takes, Changes};
+
+use crate::draft::Draft;
+use crate::entries::{begins_with, behind_keyword, token};
+use crate::limits::{MOST_PLACES, MOST_RELATIONS, MOST_TUPLES, MOST_WEIGHT};
+use crate::line_fail::LineFail;
+use pol_base::{Domain, Values};
+use pol_relation::{Language, Relation};
+use pol_text::{Line, Tokens, Word, is_name, number};
+use std::alloc::Global;
+
+/// A relation, or a tuple of the last relation.
+#[tactic(auto, unfolding(pol_defs::specs::Grammar::language_line))]
+pub(crate) fn language_line(
+    alloc: Global,
+    draft: &mut Draft,
+    line: &Line<'_>,
+) -> Result<(), LineFail>
+    requires no_instances { length draft.old.instances ≡ 0 }
+    ensures changes { Changes result draft.new (in_language draft.old (language_line draft.old.language line.now.tokens)) }
+{
+    if begins_with(line, b"relation") {
+        return relation_line(alloc, draft, line);
+    }
+    if begins_with(line, b"tuple") && 0 < draft.file().lang().len() {
+        return tuple_line(alloc, draft, line);
+    }
+    Err(LineFail::Refused(Word::BadLine))
+}
+
+/// `relation NAME ARITY`, which begins a relation without rows.
+#[tactic(auto, unfolding(pol_defs::specs::Grammar::relation_line))]
+fn relation_line(alloc: Global, draft: &mut Draft, line: &Line<'_>) -> Result<(), LineFail>
+    requires no_instances { length draft.old.instances ≡ 0 }
+    ensures changes { Changes result draft.new (in_language draft.old (relation_line draft.old.language line.now.tokens)) }
+{
+    if line.count() != 3 {
+        return Err(LineFail::Refused(Word::BadLine));
+    }
+    let name = token(line, 1);
+    if !is_name(name) {
+        return Err(LineFail::Refused(Word::BadName));
+    }
+    if has_relation(draft.file().lang(), name) {
+        return Err(LineFail::Refused(Word::RepeatedName));
+    }
+    match number(token(line, 2)) {
+        Some(arity) => begin_relation(alloc, draft, name, arity),
+        None => Err(LineFail::Refused(Word::BadNumber)),
+    }
+}
+
+/// Begins a relation under a name that is not there.
+#[tactic(auto, unfolding(pol_defs::specs::Grammar::begun_relation))]
+fn begin_relation(alloc: Global, draft: &mut Draft, name: &[u8], arity: u32) -> Result<(), LineFail>
+    requires no_instances { length draft.old.instances ≡ 0 }
+    requires name { is_name name.now ≡ true }
+    requires new_name { has_name draft.old.language name.now ≡ false }
+    ensures changes { Changes result draft.new (in_language draft.old (begun_relation draft.old.language name.now arity)) }
+{
+    if arity < 1 || MOST_PLACES < arity {
+        return Err(LineFail::Refused(Word::BadArity));
+    }
+    if MOST_RELATIONS <= draft.file().lang().len() {
+        return Err(LineFail::Refused(Word::TooManyRelations));
+    }
+    if MOST_WEIGHT < draft.subsets_with(arity) {
+        return Err(LineFail::Refused(Word::SubsetLimit));
+    }
+    draft.begin_relation(alloc, name, arity)?;
+    Ok(())
+}
+
+/// Whether a relation of the language has the name.
+fn has_relation(language: &Language, name: &[u8]) -> bool
+    ensures name { result ≡ has_name language.now name.now }
+{
+    language.find(name).is_some()
+}
+
+/// `tuple V1 .. Vn`, which belongs to the last relation.
+#[tactic(auto, unfolding(pol_defs::specs::Grammar::tuple_line))]
+fn tuple_line(alloc: Global, draft: &mut Draft, line: &Line<'_>) -> Result<(), LineFail>
+    requires no_instances { length draft.old.instances ≡ 0 }
+    requires some { 0 < length draft.old.language.relations }
+    ensures changes { Changes result draft.new (in_language draft.old (tuple_line draft.old.language line.now.tokens)) }
+{
+    let arity = draft.last_relation().arity() as usize;
+    let given = line.count().saturating_sub(1);
+    if given < arity {
+        return Err(LineFail::Refused(Word::ShortTuple));
+    }
+    if arity < given {
+        return Err(LineFail::Refused(Word::LongTuple));
+    }
+    let tuple = values_behind_keyword(alloc, draft.file().lang().domain(), line)?;
+    add_tuple(draft, tuple.as_slice())
+}
+
+/// Adds the tuple to the last relation, where it is new.
+#[tactic(auto, unfolding(pol_defs::specs::Grammar::with_tuple))]
+fn add_tuple(draft: &mut Draft, tuple: &[u8]) -> Result<(), LineFail>
+    requires no_instances { length draft.old.instances ≡ 0 }
+    requires some { 0 < length draft.old.language.relations }
+    requires tuple { IsTuple (last_of draft.old.language).domain (last_of draft.old.language).arity tuple.now }
+    ensures changes { Changes result draft.new (in_language draft.old (with_tuple draft.old.language tuple.now)) }
+{
+    let last = draft.last_relation();
+    if is_row(last, tuple) {
+        return Ok(());
+    }
+    if MOST_TUPLES <= last.len() {
+        return Err(LineFail::Refused(Word::TooManyTuples));
+    }
+    if MOST_WEIGHT < draft.triples_with_row() {
+        return Err(LineFail::Refused(Word::TripleLimit));
+    }
+    draft.insert(tuple)?;
+    Ok(())
+}
+
+/// Whether the tuple is a row.
+fn is_row(relation: &Relation, tuple: &[u8]) -> bool
+    requires tuple { IsTuple relation.now.domain relation.now.arity tuple.now }
+    ensures row { result ≡ has_row relation.now.rows tuple.now }
+{
+    relation.has(tuple)
+}
+
+/// The values that the tokens behind the keyword write.
+fn values_behind_keyword(alloc: Global, d: Domain, line: &Line<'_>) -> Result<Values, LineFail>
+    ensures values { Takes result (values_of d (drop 1 line.now.tokens)) }
+    ensures tuple { IfOk result (IsTuple d (length line.now.tokens - 1)) }
+{
+    values(alloc, d, behind_keyword(line))
+}
+
+/// The values that the tokens write, judged from left to right.
+fn values(alloc: Global, d: Domain, tokens: Tokens<'_>) -> Result<Values, LineFail>
+    ensures values { Takes result (values_of d tokens.entry) }
+    ensures tuple { IfOk result (IsTuple d (length tokens.entry)) }
+{
+    let mut values = Values::new(alloc);
+    for token in tokens {
+        let Some(value) = number(token) else {
+            return Err(LineFail::Refused(Word::BadNumber));
+        };
+        if u32::from(d.size()) <= value {
+            return Err(LineFail::Refused(Word::ValueOutside));
+        }
+        values.push(value as u8)?;
+    }
+    Ok(values)
+}
