@@ -1,4 +1,4 @@
--- Rows and relations: what `with_row` and `ascending_rows` keep and add, how many rows there can be, and what a language keeps.
+-- Rows and relations: what `with_row` keeps and adds, how many rows there can be, and what a language keeps.
 use Rattle.std.proofs.Common.{◌≡◌, ◌≢◌, ℕ, zero, suc, ◌+◌, ◌-◌, ◌^◌, ◌<◌, ◌≤◌, ◌⊎◌, ◌||◌, inl, inr, List, [], ◌∷◌, ◌++◌, length, map, get_or, Ordering, Result, Ok, Err, Less, Equal, Greater, All, AllPairs, Contains, refl, sym, ap, ◌∙◌, subst, arith}
 use Rattle.std.specs.Bool.{Decides}
 use Rattle.std.specs.Result.{MatchResult}
@@ -11,11 +11,11 @@ use Rattle.std.proofs.Math.Nat.{pow-le-pow_left, pow-le-pow_right}
 use Rattle.std.proofs.lemmas.Bool.Decides.{Decides-eqb, Decides-by_or, Decides-at}
 use Rattle.std.proofs.lemmas.Slice.Eq.{slice_eq-Decides}
 use Rattle.std.proofs.lemmas.List.{map_push, get_or-map, length-map, length_push, get_or_push, get_or_append_left}
-use Rattle.std.proofs.lemmas.List.Elements.{All-nil, All-cons, All-head, All-tail, All-push, All-weaker, All-contains, Decides-contains, Contains-get_or, All-contains_itself}
+use Rattle.std.proofs.lemmas.List.Elements.{All-nil, All-cons, All-head, All-tail, All-push, All-weaker, All-contains, Decides-contains, Contains-get_or}
 use Rattle.std.proofs.lemmas.List.Kept.{AllPairs-cons}
 use Rattle.std.proofs.lemmas.List.Quantifiers.{all_pairs_push}
 use Rattle.pol_defs.specs.Tuples.{IsDomain, IsTuple, IsBefore, cell_of}
-use Rattle.pol_defs.specs.Relations.{RelationView, IsRelation, LanguageView, IsRelationOver, IsLanguage, no_relation, relation_of, names_of, is_same, has_name, has_row, with_row, ascending_rows, with_relation, with_row_at_last, with_last_row}
+use Rattle.pol_defs.specs.Relations.{RelationView, IsRelation, LanguageView, IsRelationOver, IsLanguage, no_relation, relation_of, names_of, is_same, has_name, has_row, with_row, with_relation, with_row_at_last, with_last_row}
 use Rattle.pol_defs.proofs.CellLemmas.{cell_of-before, cell_of-IsTuple}
 use Rattle.pol_defs.proofs.OrderLemmas.{order_of, slice_cmp-before, slice_cmp-same, slice_cmp-after, before-slice_cmp, after-slice_cmp, is_eq-decides, IsBefore-trans}
 use Rattle.pol_defs.proofs.OrderLemmas.Order.{Before, Same, After}
@@ -163,49 +163,6 @@ with_row-insert t (row ∷ rows) zero within before after = with_row-after t row
 with_row-insert t (row ∷ rows) (suc i) within before after =
     let rest = with_row-insert t rows i (omega arith) (λ k d less. before (suc k) d (omega arith)) (λ k d more inside. after (suc k) d (omega arith) (omega arith)) in
     with_row-before t row rows (before 0 row (omega arith)) ∙ ap (λ some. row ∷ some) rest
-
--- the tuples in ascending order
-
-pub All-ascending_rows : (P : List ℕ → Type 0) (n : ℕ) (tuples : List (List ℕ)) → AreLong n tuples → All P tuples → All P (ascending_rows tuples)
-All-ascending_rows P n [] long all = All-nil P
-All-ascending_rows P n (t ∷ ts) long all =
-    let tail_long = All-tail (λ r. length r ≡ n) t ts long in
-    All-with_row P n t (ascending_rows ts) (All-head (λ r. length r ≡ n) t ts long) (All-ascending_rows (λ r. length r ≡ n) n ts tail_long tail_long) (All-head P t ts all) (All-ascending_rows P n ts tail_long (All-tail P t ts all))
-
-pub AreLong-ascending_rows : (n : ℕ) (tuples : List (List ℕ)) → AreLong n tuples → AreLong n (ascending_rows tuples)
-AreLong-ascending_rows n tuples long = All-ascending_rows (λ r. length r ≡ n) n tuples long long
-
-pub ascending-ascending_rows : (n : ℕ) (tuples : List (List ℕ)) → AreLong n tuples → AllPairs IsBefore (ascending_rows tuples)
-ascending-ascending_rows n [] long = AllPairs-nil IsBefore
-ascending-ascending_rows n (t ∷ ts) long =
-    let tail_long = All-tail (λ r. length r ≡ n) t ts long in
-    ascending-with_row n t (ascending_rows ts) (All-head (λ r. length r ≡ n) t ts long) (AreLong-ascending_rows n ts tail_long) (ascending-ascending_rows n ts tail_long)
-
-pub Contains-ascending_rows : (n : ℕ) (u : List ℕ) (tuples : List (List ℕ)) → AreLong n tuples → Contains tuples u → Contains (ascending_rows tuples) u
-Contains-ascending_rows n u [] long inside = inside
-Contains-ascending_rows n u (t ∷ ts) long inside =
-    let tail_long = All-tail (λ r. length r ≡ n) t ts long in
-    let t_long = All-head (λ r. length r ≡ n) t ts long in
-    let rest = Contains-ascending_rows n u ts tail_long in
-    let rows_long = AreLong-ascending_rows n ts tail_long in
-    elim (Contains-cons_cases t u ts inside) [
-      | inl first ↦ subst (λ v. Contains (with_row t (ascending_rows ts)) v) first (Contains-with_row n t (ascending_rows ts) t_long rows_long)
-      | inr behind ↦ Contains-with_row_old n t u (ascending_rows ts) t_long rows_long (rest behind)
-    ]
-
-pub Contains-from_ascending_rows : (n : ℕ) (u : List ℕ) (tuples : List (List ℕ)) → AreLong n tuples → Contains (ascending_rows tuples) u → Contains tuples u
-Contains-from_ascending_rows n u tuples long inside =
-    All-contains (Contains tuples) (ascending_rows tuples) u (All-ascending_rows (Contains tuples) n tuples long (All-contains_itself tuples)) inside
-
-with_row-first : (row : List ℕ) (rows : List (List ℕ)) → All (IsBefore row) rows → with_row row rows ≡ row ∷ rows
-with_row-first row [] later = refl
-with_row-first row (next ∷ rows) later = with_row-after row next rows (All-head (IsBefore row) next rows later)
-
--- rows that ascend are their own ascending rows
-pub ascending_rows-ascending : (rows : List (List ℕ)) → AllPairs IsBefore rows → ascending_rows rows ≡ rows
-ascending_rows-ascending [] ascending = refl
-ascending_rows-ascending (row ∷ rows) ascending =
-    ap (with_row row) (ascending_rows-ascending rows (AllPairs-tail IsBefore row rows ascending)) ∙ with_row-first row rows (AllPairs-head IsBefore row rows ascending)
 
 -- the tuple stands at the place
 pub record IsPlaceOf (t : List ℕ) (rows : List (List ℕ)) (i : ℕ) : Type 0 where
@@ -436,15 +393,3 @@ relation_of-with_relation lang name r = ap (λ e. e.1) (get_or_push lang.relatio
 -- the other relations stay
 pub relation_of-with_relation_other : (lang : LanguageView) (name : List ℕ) (r : RelationView) (i : ℕ) → i < length lang.relations → relation_of (with_relation lang name r) i ≡ relation_of lang i
 relation_of-with_relation_other lang name r i inside = ap (λ e. e.1) (get_or_append_left lang.relations ((name, r) ∷ []) ([], no_relation) i inside)
-
--- the relation of the tuples
-pub IsRelation-ascending_rows : (d arity : ℕ) (tuples : List (List ℕ)) → IsDomain d → 1 ≤ arity → arity ≤ 6 → All (IsTuple d arity) tuples → IsRelation (record { domain = d; arity = arity; rows = ascending_rows tuples })
-IsRelation-ascending_rows d arity tuples domain some few are =
-    let long = AreLong-tuples d arity tuples are in
-    record {
-      domain_is = domain;
-      some_places = some;
-      few_places = few;
-      tuples = All-ascending_rows (IsTuple d arity) arity tuples long are;
-      ascending = ascending-ascending_rows arity tuples long;
-    }

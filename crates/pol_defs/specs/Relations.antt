@@ -81,11 +81,6 @@ abbrev pub with_row : List ℕ → List (List ℕ) → List (List ℕ)
 with_row t [] = t ∷ []
 with_row t (row ∷ rows) = if is_lt (slice_cmp nat_cmp row t) then row ∷ with_row t rows else (if is_eq (slice_cmp nat_cmp row t) then row ∷ rows else t ∷ row ∷ rows)
 
--- the tuples in ascending order, each once
-abbrev pub ascending_rows : List (List ℕ) → List (List ℕ)
-ascending_rows [] = []
-ascending_rows (t ∷ ts) = with_row t (ascending_rows ts)
-
 -- the language with a further relation, the last
 abbrev pub with_relation : LanguageView → List ℕ → RelationView → LanguageView
 with_relation lang name r = record { domain = lang.domain; relations = lang.relations ++ (name, r) ∷ [] }
