@@ -13,5 +13,5 @@ returns-in_ok-breaking_log-in-Some-clause-no_only_without_solution c assignment 
 pub returns-in_ok-constant_assignment-in-None-clause-yes : goal.returns-in_ok-constant_assignment-in-None-clause-yes
 returns-in_ok-constant_assignment-in-None-clause-yes c =
     let values : c.in_ok-constant_assignment-in-None.field-0 ≡ replicate (length c.args.inst.now.variables) c.args.value =
-        c.in_ok-constant_assignment-in-None.ensures.values ∙ ap (λ n. replicate n c.args.value) c.variables.ensures.variables in
+    c.in_ok-constant_assignment-in-None.ensures.values ∙ ap (λ n. replicate n c.args.value) c.variables.ensures.variables in
     subst (IsSolution c.args.lang.now c.args.inst.now) (sym values) (constant_solution c.args.lang.now c.args.inst.now c.args.value c.requires.fits c.requires.value c.requires.closed c.in-None.ensures.none)
