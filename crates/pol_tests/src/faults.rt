@@ -1,4 +1,4 @@
-use crate::harness::outcome;
+use crate::harness::run_on;
 use pol_cli::{Ended, run};
 use pol_outside::{CalmSource, MemorySink, MemorySource, QuietSink};
 use std::test::Fail;
@@ -20,7 +20,7 @@ fn words_that_are_not_known(rt: HostRuntime) -> Result<(), Fail> {
         "report extra",
         "",
     ] {
-        let done = outcome(alloc, word, FILE)?;
+        let done = run_on(alloc, word, FILE)?;
         assert_eq!(rt; done.text.as_slice(), USAGE);
         assert_eq!(rt; done.status, 2);
     }

@@ -12,7 +12,7 @@ pub(crate) struct Outcome {
 }
 
 /// Runs with one word of the command line.
-pub(crate) fn outcome(alloc: Global, word: &str, input: &[u8]) -> Result<Outcome, NoMemory> {
+pub(crate) fn run_on(alloc: Global, word: &str, input: &[u8]) -> Result<Outcome, NoMemory> {
     let mut words = Vec::new(alloc);
     words.push(String::from_str(alloc, word)?)?;
     let mut source = MemorySource::new(input, 64, &[]);

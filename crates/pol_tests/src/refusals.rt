@@ -1,4 +1,4 @@
-use crate::harness::{lines, outcome};
+use crate::harness::{lines, run_on};
 use pol_base::{NoMemory, Values};
 use pol_text::put_number;
 use std::alloc::Global;
@@ -95,7 +95,7 @@ fn refusals_of_small_files(rt: HostRuntime) -> Result<(), Fail> {
         (b"polyanna 1|domain 2|end x|", b"refused 3 BadLine|"),
     ];
     for (input, refusal) in cases {
-        let done = outcome(alloc, "report", lines(alloc, input)?.as_slice())?;
+        let done = run_on(alloc, "report", lines(alloc, input)?.as_slice())?;
         assert_eq!(rt;
             done.text.as_slice(),
             lines(alloc, refusal)?.as_slice(),
@@ -164,7 +164,7 @@ fn refusals_at_the_limits_on_numbers(rt: HostRuntime) -> Result<(), Fail> {
         (&constraints, b"refused 262 TooManyConstraints|"),
     ];
     for (input, refusal) in cases {
-        let done = outcome(alloc, "report", input.as_slice())?;
+        let done = run_on(alloc, "report", input.as_slice())?;
         assert_eq!(rt; done.text.as_slice(), lines(alloc, refusal)?.as_slice());
     }
     Ok(())
@@ -219,7 +219,7 @@ fn limits_on_tuples(rt: HostRuntime) -> Result<(), Fail> {
         let mut input = begun(alloc, front)?;
         put_tuples(&mut input, count, base, arity)?;
         input.append(lines(alloc, behind)?.as_slice())?;
-        let done = outcome(alloc, "report", input.as_slice())?;
+        let done = run_on(alloc, "report", input.as_slice())?;
         assert_eq!(rt; done.text.as_slice(), lines(alloc, written)?.as_slice());
     }
     Ok(())
