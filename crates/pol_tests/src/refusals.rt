@@ -5,9 +5,9 @@ use std::alloc::Global;
 use std::test::Fail;
 
 #[test]
-fn refusals_of_small_files(rt: HostRuntime) -> Result<(), Fail> {
+fn refusals_of_languages(rt: HostRuntime) -> Result<(), Fail> {
     let alloc = rt.alloc();
-    let cases: [(&[u8], &[u8]); 34] = [
+    let cases: [(&[u8], &[u8]); 24] = [
         (b"", b"refused 1 NoHeader|"),
         (b"|||", b"refused 4 NoHeader|"),
         (b"# only|# comments", b"refused 3 NoHeader|"),
@@ -53,6 +53,26 @@ fn refusals_of_small_files(rt: HostRuntime) -> Result<(), Fail> {
             b"polyanna 1|domain 5|relation r 5|",
             b"refused 3 SubsetLimit|",
         ),
+        (b"polyanna 1|domain 2|end|x|", b"refused 4 AfterEnd|"),
+        (b"polyanna 1|domain 2|end|# x||y", b"refused 6 AfterEnd|"),
+        (b"polyanna 1|domain 2|end x|", b"refused 3 BadLine|"),
+    ];
+    for (input, refusal) in cases {
+        let done = run_on(alloc, "report", lines(alloc, input)?.as_slice())?;
+        assert_eq!(rt;
+            done.text.as_slice(),
+            lines(alloc, refusal)?.as_slice(),
+            "at {input:?}"
+        );
+        assert_eq!(rt; done.status, 3);
+    }
+    Ok(())
+}
+
+#[test]
+fn refusals_of_instances(rt: HostRuntime) -> Result<(), Fail> {
+    let alloc = rt.alloc();
+    let cases: [(&[u8], &[u8]); 10] = [
         (
             b"polyanna 1|domain 2|instance i x|constraint s x|",
             b"refused 4 UnknownRelation|",
@@ -90,9 +110,6 @@ fn refusals_of_small_files(rt: HostRuntime) -> Result<(), Fail> {
             b"polyanna 1|domain 2|constraint r x|",
             b"refused 3 BadLine|",
         ),
-        (b"polyanna 1|domain 2|end|x|", b"refused 4 AfterEnd|"),
-        (b"polyanna 1|domain 2|end|# x||y", b"refused 6 AfterEnd|"),
-        (b"polyanna 1|domain 2|end x|", b"refused 3 BadLine|"),
     ];
     for (input, refusal) in cases {
         let done = run_on(alloc, "report", lines(alloc, input)?.as_slice())?;
@@ -137,20 +154,35 @@ fn put_tuples(text: &mut Values, count: u32, base: u32, arity: u32) -> Result<()
     Ok(())
 }
 
-fn begun(alloc: Global, text: &[u8]) -> Result<Values, NoMemory> {
-    lines(alloc, text)
+/// Relations of one arity on two values, each with the tuples of the numbers below the count.
+fn put_relations(
+    text: &mut Values,
+    first: u32,
+    end: u32,
+    arity: u32,
+    tuples: u32,
+) -> Result<(), NoMemory> {
+    for number in first..end {
+        text.append(b"relation r")?;
+        put_number(text, u64::from(number))?;
+        text.append(b" ")?;
+        put_number(text, u64::from(arity))?;
+        text.append(b"\n")?;
+        put_tuples(text, tuples, 2, arity)?;
+    }
+    Ok(())
 }
 
 #[test]
 fn refusals_at_the_limits_on_numbers(rt: HostRuntime) -> Result<(), Fail> {
     let alloc = rt.alloc();
-    let mut relations = begun(alloc, b"polyanna 1|domain 2|")?;
+    let mut relations = lines(alloc, b"polyanna 1|domain 2|")?;
     put_numbered(&mut relations, 33, b"relation r", b" 1\n")?;
-    let mut instances = begun(alloc, b"polyanna 1|domain 2|")?;
+    let mut instances = lines(alloc, b"polyanna 1|domain 2|")?;
     put_numbered(&mut instances, 9, b"instance i", b" x\n")?;
-    let mut variables = begun(alloc, b"polyanna 1|domain 2|instance i")?;
+    let mut variables = lines(alloc, b"polyanna 1|domain 2|instance i")?;
     put_numbered(&mut variables, 41, b" x", b"")?;
-    let mut constraints = begun(
+    let mut constraints = lines(
         alloc,
         b"polyanna 1|domain 2|relation r 1|tuple 0|instance i x|",
     )?;
@@ -216,8 +248,53 @@ fn limits_on_tuples(rt: HostRuntime) -> Result<(), Fail> {
         ),
     ];
     for (front, count, base, arity, behind, written) in cases {
-        let mut input = begun(alloc, front)?;
+        let mut input = lines(alloc, front)?;
         put_tuples(&mut input, count, base, arity)?;
+        input.append(lines(alloc, behind)?.as_slice())?;
+        let done = run_on(alloc, "report", input.as_slice())?;
+        assert_eq!(rt; done.text.as_slice(), lines(alloc, written)?.as_slice());
+    }
+    Ok(())
+}
+
+#[test]
+fn limits_on_sums_of_32_relations(rt: HostRuntime) -> Result<(), Fail> {
+    let alloc = rt.alloc();
+    // 2 * 15^5 + 11 * 15^4 + 6 * 15^3 + 5 * 15^2 + 7 * 15 is 47 below 2^21
+    let mut subsets = lines(alloc, b"polyanna 1|domain 4|")?;
+    put_relations(&mut subsets, 0, 2, 5, 0)?;
+    put_relations(&mut subsets, 2, 13, 4, 0)?;
+    put_relations(&mut subsets, 13, 19, 3, 0)?;
+    put_relations(&mut subsets, 19, 24, 2, 0)?;
+    put_relations(&mut subsets, 24, 31, 1, 0)?;
+    // 31 * 40^3 + 48^3 is 2560 below 2^21, and 49^3 is 7057 above 48^3
+    let mut triples = lines(alloc, b"polyanna 1|domain 2|")?;
+    put_relations(&mut triples, 0, 31, 6, 40)?;
+    put_relations(&mut triples, 31, 32, 6, 48)?;
+    let cases: [(&Values, &[u8], &[u8]); 4] = [
+        (
+            &subsets,
+            b"relation last 1|end|",
+            b"polyanna-report 1|class constant 0 0 0 0|end|",
+        ),
+        (
+            &subsets,
+            b"relation last 2|end|",
+            b"refused 34 SubsetLimit|",
+        ),
+        (
+            &triples,
+            b"end|",
+            b"polyanna-report 1|class constant 0 0|end|",
+        ),
+        (
+            &triples,
+            b"tuple 1 1 0 0 0 0|end|",
+            b"refused 1323 TripleLimit|",
+        ),
+    ];
+    for (front, behind, written) in cases {
+        let mut input = Values::from_slice(alloc, front.as_slice())?;
         input.append(lines(alloc, behind)?.as_slice())?;
         let done = run_on(alloc, "report", input.as_slice())?;
         assert_eq!(rt; done.text.as_slice(), lines(alloc, written)?.as_slice());
