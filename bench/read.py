@@ -10,7 +10,6 @@ program.
 """
 import itertools
 import os
-import resource
 import subprocess
 import sys
 import tempfile
