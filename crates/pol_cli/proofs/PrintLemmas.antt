@@ -1,17 +1,8 @@
--- Numbers, pairs and steps behind those that are printed.
+-- Pairs and steps behind those that are printed.
 use Rattle.std.proofs.Common.{◌≡◌, ℕ, ◌+◌, ◌<◌, List, [], ◌∷◌, ◌++◌, length, take, get_or, refl, sym, ap, ◌∙◌, append_assoc, append-nil, codes, decimal}
 use Rattle.std.proofs.lemmas.List.{take_more}
 use Rattle.pol_defs.specs.Nogoods.{Pair, StepView}
-use Rattle.pol_defs.specs.Texts.{spaced}
 use Rattle.pol_defs.specs.Reports.{pairs_text, step_line, steps_text}
-use Rattle.pol_defs.proofs.SpacedLemmas.{spaced-more}
-
--- a space and the next number behind those so far
-pub number_more : (old out mid new numbers : List ℕ) (i n : ℕ) → i < length numbers → n ≡ get_or numbers i 0 → out ≡ old ++ spaced (take i numbers) → mid ≡ out ++ codes " " → new ≡ mid ++ decimal n → new ≡ old ++ spaced (take (i + 1) numbers)
-number_more old out mid new numbers i n inside is so_far space digits =
-    let text = digits ∙ ap (λ some. some ++ decimal n) (space ∙ ap (λ some. some ++ codes " ") so_far) in
-    let taken = ap (λ some. take i numbers ++ some ∷ []) is ∙ sym (take_more numbers i 0 inside) in
-    text ∙ spaced-more old (take i numbers) n ∙ ap (λ some. old ++ spaced some) taken
 
 regroup : (x t s v a : List ℕ) → x ++ ((((t ++ s) ++ v) ++ s) ++ a) ≡ ((((x ++ t) ++ s) ++ v) ++ s) ++ a
 regroup x t s v a = simp append_assoc refl

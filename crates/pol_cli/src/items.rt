@@ -1,13 +1,12 @@
 ghost use Rattle.std.specs.Prelude.{◌≡◌, ◌++◌, codes, decimal, OnOk};
 ghost use Rattle.pol_base.specs.Names.{class_named};
 ghost use Rattle.pol_nogood.specs.Steps.{step_named};
-ghost use Rattle.pol_defs.specs.Texts.{spaced};
 ghost use Rattle.pol_defs.specs.Nogoods.{Basis};
 ghost use Rattle.pol_defs.specs.Reports.{class_line, undecided_line, yes_line, no_lines, steps_text, step_line, counted_pairs, counted_references, pairs_text};
 
 use pol_base::{ClassName, NoMemory, Numbers, Values};
 use pol_nogood::{Log, Nogood, Step};
-use pol_text::put_number;
+use pol_text::{put_number, put_numbers, put_spaced, put_values};
 
 /// Appends the line of the class: its table, or `none`.
 pub(crate) fn put_class_line(
@@ -66,8 +65,7 @@ pub(crate) fn put_no(
     out.append(name)?;
     out.append(b" no ")?;
     out.append(class.word())?;
-    out.append(b" ")?;
-    put_number(out, u64::from(log.len()))?;
+    put_spaced(out, u64::from(log.len()))?;
     out.append(b"\n")?;
     put_steps(out, log)
 }
@@ -109,16 +107,14 @@ fn put_step_parts(
 fn put_counted_pairs(out: &mut Values, nogood: &Nogood) -> Result<(), NoMemory>
     ensures ok { OnOk result (out.new ≡ out.old ++ counted_pairs nogood.now) }
 {
-    out.append(b" ")?;
-    put_number(out, u64::from(nogood.len()))?;
+    put_spaced(out, u64::from(nogood.len()))?;
     put_pairs(out, nogood)
 }
 
 fn put_counted_references(out: &mut Values, references: &[u32]) -> Result<(), NoMemory>
     ensures ok { OnOk result (out.new ≡ out.old ++ counted_references references.now) }
 {
-    out.append(b" ")?;
-    put_number(out, references.len() as u64)?;
+    put_spaced(out, references.len() as u64)?;
     put_numbers(out, references)
 }
 
@@ -135,30 +131,6 @@ fn put_pairs(out: &mut Values, nogood: &Nogood) -> Result<(), NoMemory>
 fn put_pair(out: &mut Values, variable: u32, value: u8) -> Result<(), NoMemory>
     ensures ok { OnOk result (out.new ≡ out.old ++ codes " " ++ decimal variable ++ codes " " ++ decimal value) }
 {
-    out.append(b" ")?;
-    put_number(out, u64::from(variable))?;
-    out.append(b" ")?;
-    put_number(out, u64::from(value))
-}
-
-/// Appends the values, each behind a space.
-fn put_values(out: &mut Values, values: &[u8]) -> Result<(), NoMemory>
-    ensures ok { OnOk result (out.new ≡ out.old ++ spaced values.now) }
-{
-    for value in values {
-        out.append(b" ")?;
-        put_number(out, u64::from(*value))?;
-    }
-    Ok(())
-}
-
-/// Appends the numbers, each behind a space.
-fn put_numbers(out: &mut Values, numbers: &[u32]) -> Result<(), NoMemory>
-    ensures ok { OnOk result (out.new ≡ out.old ++ spaced numbers.now) }
-{
-    for number in numbers {
-        out.append(b" ")?;
-        put_number(out, u64::from(*number))?;
-    }
-    Ok(())
+    put_spaced(out, u64::from(variable))?;
+    put_spaced(out, u64::from(value))
 }

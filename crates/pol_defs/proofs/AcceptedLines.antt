@@ -7,7 +7,7 @@ use Rattle.std.proofs.lemmas.List.{get_or_default}
 use Rattle.std.proofs.lemmas.List.Elements.{All-nil, All-cons}
 use Rattle.std.proofs.lemmas.List.Quantifiers.{all_pairs_push}
 use Rattle.pol_defs.specs.Tuples.{IsDomain, IsTuple}
-use Rattle.pol_defs.specs.Relations.{RelationView, IsRelation, LanguageView, no_relation, relation_of, names_of, last_of, is_among, place_in, has_name, has_row, with_row, with_relation, with_row_at_last, with_last_row}
+use Rattle.pol_defs.specs.Relations.{RelationView, IsRelation, LanguageView, no_relation, relation_of, names_of, last_of, is_among, place_in, has_row, with_row, with_relation, with_row_at_last, with_last_row}
 use Rattle.pol_defs.specs.Instances.{ConstraintView, FitsAt}
 use Rattle.pol_defs.specs.Lines.{token_at, number_of, is_name}
 use Rattle.pol_defs.specs.Refusals.{Word}
@@ -15,8 +15,8 @@ use Rattle.pol_defs.specs.Refusals.Word.{NoHeader, BadVersion, BadDomain, BadLin
 use Rattle.pol_defs.specs.Files.{weight_of, subset_weight_of, most_weight, FileView, last_instance, with_instance, with_last_constraint}
 use Rattle.pol_defs.specs.Grammar.{unless, after_number, after_values, begins_with, header_line, domain_line, begun_relation, relation_line, values_of, with_tuple, tuple_line, instance_names, names_of_tokens, after_names, instance_line, scope_of, with_scope, constraint_line, in_language, end_line}
 use Rattle.pol_defs.specs.Spelling.{Write, constraint_tokens}
-use Rattle.pol_defs.proofs.RelationLemmas.{AllPairs-nil, AreLong, AreLong-tuples, is_same-decides, has_row-decides, has_name-decides, length-with_row_new, with_row-there}
-use Rattle.pol_defs.proofs.FileLemmas.{place_in-found, place_in-known, place_in-name_of}
+use Rattle.pol_defs.proofs.RelationLemmas.{AllPairs-nil, AreLong, AreLong-tuples, is_same-decides, has_row-decides, length-with_row_new, with_row-there}
+use Rattle.pol_defs.proofs.NameLemmas.{absent_name, place_in-found, place_in-known, place_in-name_of}
 
 -- a test that was passed
 pub record PassedTest {A : Type 0} (test : Bool) (next : Result A Word) (found : A) : Type 0 where
@@ -132,7 +132,7 @@ relation_line-writes lang tokens next e =
     let name = token_at tokens 1 in
     let long = unless-ok (eqb (length tokens) 3) BadLine _ next e in
     let named = unless-ok (is_name name) BadName _ next long.went_on in
-    let new = unless-ok (not (has_name lang name)) RepeatedName _ next named.went_on in
+    let new = unless-ok (not (is_among (names_of lang) name)) RepeatedName _ next named.went_on in
     let number = after_number-ok (number_of (token_at tokens 2)) BadNumber _ next new.went_on in
     let within = unless-ok (leb 1 number.value && leb number.value 6) BadArity _ next number.went_on in
     let few = unless-ok (ltb (length lang.relations) 32) TooManyRelations _ next within.went_on in
@@ -143,7 +143,7 @@ relation_line-writes lang tokens next e =
       arity_token = token_at tokens 2;
       arity = number.value;
       is_name = named.passed;
-      is_new = not_from_Decides (has_name lang name) (has_name-decides lang name) (not-true (has_name lang name) new.passed);
+      is_new = absent_name (names_of lang) name (not-true (is_among (names_of lang) name) new.passed);
       arity_is = number.read;
       some_places = leb-true 1 number.value bounds.0;
       few_places = leb-true number.value 6 bounds.1;

@@ -1,48 +1,16 @@
 -- Files: what building one from its parts keeps of the limits, the names and the instances.
-use Rattle.std.proofs.Common.{◌≡◌, ◌≢◌, ℕ, zero, suc, ◌+◌, ◌-◌, ◌^◌, ◌<◌, ◌≤◌, Bool, true, false, cond, List, [], ◌∷◌, ◌++◌, length, Option, Some, None, get_or, All, AllPairs, Contains, refl, sym, ap, ◌∙◌, subst, arith, option_map}
-use Rattle.std.specs.Bool.{Decides}
+use Rattle.std.proofs.Common.{◌≡◌, ◌≢◌, ℕ, zero, suc, ◌+◌, ◌-◌, ◌^◌, ◌<◌, ◌≤◌, true, List, [], ◌∷◌, ◌++◌, length, Ok, get_or, set, All, AllPairs, Contains, refl, sym, ap, ◌∙◌, arith}
 use Rattle.std.proofs.lemmas.List.{get_or-map, length-map, length_push}
 use Rattle.std.proofs.lemmas.List.Elements.{All-nil, All-cons, All-head, All-tail, All-push, All-get_or}
 use Rattle.std.proofs.lemmas.List.Quantifiers.{all_pairs_push}
 use Rattle.pol_defs.specs.Tuples.{IsDomain, IsTuple}
-use Rattle.pol_defs.specs.Relations.{RelationView, IsRelationOver, LanguageView, no_relation, last_of, name_of, names_of, is_same, place_in, with_row, with_relation, with_row_at_last, with_last_row}
+use Rattle.pol_defs.specs.Relations.{RelationView, IsRelationOver, LanguageView, IsLanguage, no_relation, last_of, names_of, with_row, with_relation, with_row_at_last, with_last_row}
 use Rattle.pol_defs.specs.Instances.{ConstraintView, InstanceView, IsScope, FitsAt, with_constraint}
 use Rattle.pol_defs.specs.Lines.{is_name}
 use Rattle.pol_defs.specs.Files.{weight_of, subset_weight_of, most_weight, IsFileLanguage, IsFileInstance, FileView, IsFile, no_instance, last_instance, with_instance, with_constraint_at_last, with_last_constraint}
-use Rattle.pol_defs.specs.Grammar.{instance_names, begun_file}
-use Rattle.pol_defs.proofs.RelationLemmas.{Named, IsPlaceOf, is_same-decides, relation_with_row, length-with_relation, length-with_last_row, IsLanguage-begun, IsLanguage-with_relation, IsLanguage-with_last_row}
-
--- ---- places
-
-place_behind : (ys xs : List ℕ) (lists : List (List ℕ)) (place : Option ℕ) (i : ℕ) → ((k : ℕ) → place ≡ Some k → IsPlaceOf xs lists k) → option_map (λ k. k + 1) place ≡ Some i → IsPlaceOf xs (ys ∷ lists) i
-place_behind ys xs lists None i found e = cc
-place_behind ys xs lists (Some k) i found e =
-    let here = found k refl in
-    let next : k + 1 ≡ i = cc in
-    let same : suc k ≡ i = omega (arith, next) in
-    subst (IsPlaceOf xs (ys ∷ lists)) same (record { inside = omega (arith, here.inside); found = here.found })
-
--- the list stands at the place that was found
-pub place_in-found : (lists : List (List ℕ)) (xs : List ℕ) (i : ℕ) → place_in lists xs ≡ Some i → IsPlaceOf xs lists i
-place_in-found [] xs i e = cc
-place_in-found (ys ∷ lists) xs i e = by_test (is_same ys xs) (is_same-decides ys xs) (λ k h. place_in-found lists xs k h) e
-  where
-    by_test : (t : Bool) → Decides t (ys ≡ xs) → ((k : ℕ) → place_in lists xs ≡ Some k → IsPlaceOf xs lists k) → cond t (Some 0) (option_map (λ k. k + 1) (place_in lists xs)) ≡ Some i → IsPlaceOf xs (ys ∷ lists) i
-    by_test true decides later h =
-        let first : 0 ≡ i = cc in
-        subst (IsPlaceOf xs (ys ∷ lists)) first (record { inside = omega arith; found = decides.0 refl })
-    by_test false decides later h = place_behind ys xs lists (place_in lists xs) i later h
-
--- a name that was found is that of a relation
-pub place_in-known : (lang : LanguageView) (name : List ℕ) (r : ℕ) → place_in (names_of lang) name ≡ Some r → r < length lang.relations
-place_in-known lang name r e =
-    let place = place_in-found (names_of lang) name r e in
-    omega (arith, place.inside, length-map lang.relations (λ named. named.0))
-
-pub place_in-name_of : (lang : LanguageView) (name : List ℕ) (r : ℕ) → place_in (names_of lang) name ≡ Some r → name_of lang r ≡ name
-place_in-name_of lang name r e =
-    let place = place_in-found (names_of lang) name r e in
-    sym (get_or-map (λ named. named.0) lang.relations r ([], no_relation) name (place_in-known lang name r e)) ∙ place.found
+use Rattle.pol_defs.specs.Grammar.{instance_names, begun_file, names_of_tokens}
+use Rattle.pol_defs.proofs.RelationLemmas.{Named, AllPairs-nil, AreLong-tuples, relation_with_row, length-with_row_new, length-with_relation, length-with_last_row, IsRelation-begun, IsRelationOver-relation_of, IsLanguage-begun, IsLanguage-with_relation, IsLanguage-with_last_row}
+use Rattle.pol_defs.proofs.AcceptedLines.{names_of_tokens-names}
 
 -- ---- the sums
 
@@ -112,6 +80,11 @@ IsFileLanguage-with_last_row lang t is tuple rows triples = record {
   few_subsets = rw (subset_weight_of-with_row_at_last lang.domain t lang.relations) is.few_subsets;
 }
 
+pub length-last_rows : (lang : LanguageView) (t : List ℕ) → IsLanguage lang → 0 < length lang.relations → IsTuple (last_of lang).domain (last_of lang).arity t → (Contains (last_of lang).rows t → ⊥) → length (with_row t (last_of lang).rows) ≡ length (last_of lang).rows + 1
+length-last_rows lang t is some tuple new =
+    let over = IsRelationOver-relation_of lang (length lang.relations - 1) is (omega arith) in
+    length-with_row_new (last_of lang).arity t (last_of lang).rows tuple.long (AreLong-tuples (last_of lang).domain (last_of lang).arity (last_of lang).rows over.is_relation.tuples) new
+
 -- ---- instances
 
 -- an instance that is begun has no constraints
@@ -125,6 +98,12 @@ IsFileInstance-begun lang name variables named names distinct some few = record 
   few_variables = few;
   few_constraints = omega arith;
 }
+
+-- the tokens that are read as names are variables of an instance of any language
+pub IsFileInstance-names : (lang : LanguageView) (name : List ℕ) (tokens variables : List (List ℕ)) → is_name name ≡ true → 1 ≤ length tokens → length tokens ≤ 40 → names_of_tokens [] tokens ≡ Ok variables → IsFileInstance lang (record { name = name; variables = variables; constraints = [] })
+IsFileInstance-names lang name tokens variables named some few read =
+    let are = names_of_tokens-names [] tokens variables (AllPairs-nil (λ x y. x ≢ y)) read in
+    rw are.same (IsFileInstance-begun lang name tokens named are.named are.distinct some few)
 
 -- a constraint more of a relation of the language
 pub IsFileInstance-with_constraint : (lang : LanguageView) (inst : InstanceView) (c : ConstraintView) → IsFileInstance lang inst → FitsAt lang (length inst.variables) c → 1 ≤ length c.scope → length c.scope ≤ 6 → length inst.constraints < 256 → IsFileInstance lang (with_constraint inst c)
@@ -154,6 +133,21 @@ IsFile-without_instances lang instances is none = record {
 
 pub IsFile-begun : (d : ℕ) → IsDomain d → IsFile (begun_file d)
 IsFile-begun d domain = IsFile-without_instances (record { domain = d; relations = [] }) [] (IsFileLanguage-begun d domain) refl
+
+-- a file without instances begins a relation within the limits
+pub IsFile-with_relation : (file : FileView) (name : List ℕ) (arity : ℕ) → IsFile file → length file.instances ≡ 0 → is_name name ≡ true → (Contains (names_of file.language) name → ⊥) → 1 ≤ arity → arity ≤ 6 → length file.language.relations < 32 → subset_weight_of file.language.domain file.language.relations + (2 ^ file.language.domain - 1) ^ arity ≤ most_weight → IsFile (record { language = with_relation file.language name (record { domain = file.language.domain; arity = arity; rows = [] }); instances = file.instances })
+IsFile-with_relation file name arity is none named new some few room subsets =
+    let lang = file.language in
+    let relation : RelationView = record { domain = lang.domain; arity = arity; rows = [] } in
+    let over : IsRelationOver lang.domain relation = record { is_relation = IsRelation-begun lang.domain arity is.language_is.is_language.domain_is some few; same_domain = refl } in
+    let triples : weight_of 3 lang.relations + 0 ≤ most_weight = let few_triples = is.language_is.few_triples in omega arith in
+    IsFile-without_instances (with_relation lang name relation) file.instances (IsFileLanguage-with_relation lang name relation is.language_is over named new room (omega arith) triples subsets) none
+
+-- a file without instances takes a row more within the limits
+pub IsFile-with_row : (file : FileView) (t : List ℕ) → IsFile file → length file.instances ≡ 0 → 0 < length file.language.relations → IsTuple (last_of file.language).domain (last_of file.language).arity t → (Contains (last_of file.language).rows t → ⊥) → length (last_of file.language).rows < 128 → weight_of 3 (with_last_row file.language t).relations ≤ most_weight → IsFile (record { language = with_last_row file.language t; instances = file.instances })
+IsFile-with_row file t is none some tuple new room triples =
+    let longer = length-last_rows file.language t is.language_is.is_language some tuple new in
+    IsFile-without_instances (with_last_row file.language t) file.instances (IsFileLanguage-with_last_row file.language t is.language_is tuple (omega arith) triples) none
 
 -- a new instance
 pub IsFile-with_instance : (file : FileView) (inst : InstanceView) → IsFile file → IsFileInstance file.language inst → (Contains (instance_names file) inst.name → ⊥) → length file.instances < 8 → IsFile (with_instance file inst)
@@ -196,3 +190,12 @@ IsFile-with_last_constraint file c is fits some few room = record {
       (sym (name-with_constraint_at_last c file.instances i d) ∙ (same ∙ name-with_constraint_at_last c file.instances j d));
   few_instances = omega (arith, is.few_instances, length-with_constraint_at_last c file.instances);
 }
+
+set-last : (c : ConstraintView) (inst : InstanceView) (rest : List InstanceView) → set (inst ∷ rest) (length rest) (with_constraint (get_or (inst ∷ rest) (length rest) no_instance) c) ≡ with_constraint_at_last c (inst ∷ rest)
+set-last c inst [] = refl
+set-last c inst (next ∷ rest) = ap (λ instances. inst ∷ instances) (set-last c next rest)
+
+-- the last instance with the constraint in its place
+pub set-with_constraint : (c : ConstraintView) (instances : List InstanceView) → 0 < length instances → set instances (length instances - 1) (with_constraint (get_or instances (length instances - 1) no_instance) c) ≡ with_constraint_at_last c instances
+set-with_constraint c [] some = absurd (omega arith)
+set-with_constraint c (inst ∷ rest) some = let last : suc (length rest) - 1 ≡ length rest = omega arith in rw last (set-last c inst rest)

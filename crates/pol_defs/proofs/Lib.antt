@@ -4,10 +4,10 @@ pub mod RelationLemmas
 pub mod ConstantLemmas
 pub mod LineLemmas
 pub mod GrammarLemmas
-pub mod FileLemmas
+pub mod NameLemmas
 pub mod AcceptedLines
+pub mod FileLemmas
 pub mod SpellingLemmas
-pub mod SpacedLemmas
 pub mod ReportLemmas
 pub mod LogExamples
 pub mod RefusedTexts

@@ -13,12 +13,12 @@ use Rattle.pol_defs.proofs.LogLemmas.{covers_from_test, contained_in_from_within
 pub covered-next : (earlier : List StepView) (nogood one : List Pair) (cases : List (List Pair)) (references : List ℕ) (k : ℕ) → k < length references → covered earlier nogood (one ∷ cases) (drop k references) ≡ (contained_in (nogood_at earlier (get_or references k 0)) (nogood ++ one) && covered earlier nogood cases (drop (k + 1) references))
 covered-next earlier nogood one cases references k inside = ap (covered earlier nogood (one ∷ cases)) (drop_more references k 0 inside)
 
+pub no_references : (earlier : List StepView) (nogood : List Pair) (cases : List (List Pair)) → covered earlier nogood cases [] ≡ true
+no_references earlier nogood [] = refl
+no_references earlier nogood (one ∷ cases) = refl
+
 pub covered-no_reference : (earlier : List StepView) (nogood : List Pair) (cases : List (List Pair)) (references : List ℕ) (k : ℕ) → length references ≤ k → covered earlier nogood cases (drop k references) ≡ true
-covered-no_reference earlier nogood cases references k all = ap (covered earlier nogood cases) (drop_all k references all) ∙ by cases
-  where
-    by : (cases : List (List Pair)) → covered earlier nogood cases [] ≡ true
-    by [] = refl
-    by (one ∷ cases) = refl
+covered-no_reference earlier nogood cases references k all = ap (covered earlier nogood cases) (drop_all k references all) ∙ no_references earlier nogood cases
 
 -- one place that is not contained
 pub not_covered : (earlier : List StepView) (nogood : List Pair) (cases : List (List Pair)) (references : List ℕ) (i : ℕ) → i < length references → i < length cases → contained_in (nogood_at earlier (get_or references i 0)) (nogood ++ get_or cases i []) ≡ false → covered earlier nogood cases references ≡ false

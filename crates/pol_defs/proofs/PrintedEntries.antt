@@ -1,29 +1,19 @@
 -- Each printed line of a file is accepted behind the lines before it, with the entry that it prints.
 use Rattle.std.proofs.Common.{◌≡◌, ◌≢◌, ℕ, zero, suc, inl, inr, ◌+◌, ◌-◌, ◌^◌, ◌<◌, ◌≤◌, Bool, true, false, leb, eqb, List, [], ◌∷◌, ◌++◌, length, map, get_or, Some, Ok, All, AllPairs, Contains, refl, ap, sym, ◌∙◌, subst, arith, codes, decimal, append_assoc, length-append}
-use Rattle.std.proofs.lemmas.Bool.{cases_Bool, lt-ltb, le-leb, eq-eqb}
+use Rattle.std.proofs.lemmas.Bool.{false_from_ne_true, lt-ltb, le-leb, eq-eqb}
 use Rattle.std.proofs.lemmas.List.{append-nil, get_or_append_left, get_or_at, get_or_push, get_or-map, length-map}
 use Rattle.std.proofs.lemmas.List.Elements.{All-head, All-tail}
 use Rattle.pol_defs.specs.Tuples.{IsTuple, IsBefore}
-use Rattle.pol_defs.specs.Relations.{RelationView, LanguageView, no_relation, relation_of, last_of, name_of, names_of, is_same, is_among, place_in, has_name, has_row, with_row, with_row_at_last}
+use Rattle.pol_defs.specs.Relations.{RelationView, LanguageView, no_relation, relation_of, last_of, name_of, names_of, is_same, is_among, place_in, has_row, with_row, with_row_at_last}
 use Rattle.pol_defs.specs.Instances.{ConstraintView, InstanceView, FitsAt}
 use Rattle.pol_defs.specs.Lines.{is_name}
 use Rattle.pol_defs.specs.Files.{FileView, weight_of, subset_weight_of, most_weight, no_instance, last_instance, with_constraint_at_last}
 use Rattle.pol_defs.specs.Grammar.{header_line, domain_line, begun_relation, relation_line, values_of, with_tuple, tuple_line, names_of_tokens, instance_line, scope_of, with_scope, constraint_line}
 use Rattle.pol_defs.proofs.OrderLemmas.{IsBefore-irrefl}
-use Rattle.pol_defs.proofs.RelationLemmas.{Named, is_same-decides, has_row-decides, has_name-decides, with_row-before, AllPairs-tail}
+use Rattle.pol_defs.proofs.RelationLemmas.{Named, has_row-decides, with_row-before}
+use Rattle.pol_defs.proofs.NameLemmas.{AllPairs-map, other_name, place_in-distinct}
 use Rattle.pol_defs.proofs.PrintedLines.{number_of-decimal}
 use Rattle.pol_defs.proofs.PrintedFiles.{tuple_tokens, constraint_line_tokens}
-
--- ---- tests
-
-false_if_refuted : (test : Bool) → (test ≡ true → ⊥) → test ≡ false
-false_if_refuted test none = elim (cases_Bool test) [ inl e ↦ absurd (none e) | inr e ↦ e ]
-
-other-is_same : (xs ys : List ℕ) → xs ≢ ys → is_same xs ys ≡ false
-other-is_same xs ys other = false_if_refuted (is_same xs ys) (λ e. other ((is_same-decides xs ys).0 e))
-
-same-is_same : (xs : List ℕ) → is_same xs xs ≡ true
-same-is_same xs = (is_same-decides xs xs).1 refl
 
 -- ---- lists
 
@@ -47,26 +37,10 @@ new-among f done x other inside =
 pub distinct-new : {X : Type 0} (f : X → List ℕ) (done rest : List X) (x : X) → AllPairs (λ y z. f y ≢ f z) (done ++ x ∷ rest) → Contains (map f done) (f x) → ⊥
 distinct-new f done rest x distinct = new-among f done x (AllPairs-before (λ y z. f y ≢ f z) done rest x distinct)
 
-pub AllPairs-map : {X : Type 0} (f : X → List ℕ) (xs : List X) (x : X) → AllPairs (λ y z. f y ≢ f z) xs → AllPairs (λ y z. y ≢ z) (map f xs)
-AllPairs-map f xs x distinct = λ i j d less inside same.
-    let j_inside : j < length xs = omega (arith, length-map xs f) in
-    let i_inside : i < length xs = omega arith in
-    distinct i j x less j_inside (sym (get_or-map f xs i x d i_inside) ∙ (same ∙ get_or-map f xs j x d j_inside))
-
 -- ---- names
 
--- a list stands at its place among distinct lists
-pub place_in-distinct : (lists : List (List ℕ)) (i : ℕ) (fallback : List ℕ) → AllPairs (λ xs ys. xs ≢ ys) lists → i < length lists → place_in lists (get_or lists i fallback) ≡ Some i
-place_in-distinct [] i fallback distinct inside = absurd (omega arith)
-place_in-distinct (xs ∷ lists) zero fallback distinct inside = rw (same-is_same xs) refl
-place_in-distinct (xs ∷ lists) (suc i) fallback distinct inside =
-    let rest = place_in-distinct lists i fallback (AllPairs-tail (λ ys zs. ys ≢ zs) xs lists distinct) (omega arith) in
-    let other = other-is_same xs (get_or lists i fallback) (distinct 0 (suc i) fallback (omega arith) inside) in
-    let next : i + 1 ≡ suc i = omega arith in
-    rw (other, rest) (ap (λ n. Some n) next)
-
 new-is_among : (before : List (List ℕ)) (t : List ℕ) → All (λ xs. xs ≢ t) before → is_among before t ≡ false
-new-is_among before t other = false_if_refuted (is_among before t) (λ e. let inside = (has_row-decides before t).0 e in other inside.0 t inside.1 inside.2)
+new-is_among before t other = false_from_ne_true (is_among before t) (λ e. let inside = (has_row-decides before t).0 e in other inside.0 t inside.1 inside.2)
 
 -- distinct names are read as they are
 pub names_of_tokens-distinct : (before names all : List (List ℕ)) → all ≡ before ++ names → All (λ name. is_name name ≡ true) names → AllPairs (λ x y. x ≢ y) all → names_of_tokens before names ≡ Ok all
@@ -100,7 +74,7 @@ named_rows d name arity rows = (name, record { domain = d; arity = arity; rows =
 pub relation_line-accepts : (d : ℕ) (done : List Named) (name : List ℕ) (arity : ℕ) → is_name name ≡ true → (Contains (map (λ e. e.0) done) name → ⊥) → 1 ≤ arity → arity ≤ 6 → length done < 32 → subset_weight_of d done + (2 ^ d - 1) ^ arity ≤ most_weight → relation_line (language_of d done) (codes "relation" ∷ name ∷ decimal arity ∷ []) ≡ Ok (language_of d (done ++ named_rows d name arity [] ∷ []))
 unfolding relation_line begun_relation
 relation_line-accepts d done name arity named new some few room subsets =
-    let unknown : has_name (language_of d done) name ≡ false = false_if_refuted (has_name (language_of d done) name) (λ e. new ((has_name-decides (language_of d done) name).0 e)) in
+    let unknown = other_name (map (λ e. e.0) done) name new in
     rw (named, unknown, number_of-decimal arity (omega arith), le-leb 1 arity some, le-leb arity 6 few, lt-ltb (length done) 32 room, le-leb (subset_weight_of d done + (2 ^ d - 1) ^ arity) most_weight subsets) refl
 
 -- printed values are read as they are
@@ -118,18 +92,18 @@ with_row-last t (row ∷ front) before =
     with_row-before t row front (All-head (λ u. IsBefore u t) row front before) ∙ ap (λ rows. row ∷ rows) (with_row-last t front (All-tail (λ u. IsBefore u t) row front before))
 
 new-row : (t : List ℕ) (front : List (List ℕ)) → All (λ row. IsBefore row t) front → has_row front t ≡ false
-new-row t front before = false_if_refuted (has_row front t) (λ e. let inside = (has_row-decides front t).0 e in IsBefore-irrefl t (subst (λ u. IsBefore u t) inside.2 (before inside.0 t inside.1)))
+new-row t front before = false_from_ne_true (has_row front t) (λ e. let inside = (has_row-decides front t).0 e in IsBefore-irrefl t (subst (λ u. IsBefore u t) inside.2 (before inside.0 t inside.1)))
 
 with_row_at_last-push : (t : List ℕ) (done : List Named) (e : Named) → with_row_at_last t (done ++ e ∷ []) ≡ done ++ (e.0, record { domain = e.1.domain; arity = e.1.arity; rows = with_row t e.1.rows }) ∷ []
 with_row_at_last-push t [] e = refl
 with_row_at_last-push t (f ∷ []) e = refl
 with_row_at_last-push t (f ∷ g ∷ done) e = ap (λ relations. f ∷ relations) (with_row_at_last-push t (g ∷ done) e)
 
-last_place : {X : Type 0} (done : List X) (x : X) → length (done ++ x ∷ []) - 1 ≡ length done
-last_place done x = omega (arith, length-append done (x ∷ []))
+last_place-push : {X : Type 0} (done : List X) (x : X) → length (done ++ x ∷ []) - 1 ≡ length done
+last_place-push done x = omega (arith, length-append done (x ∷ []))
 
 pub last_of-push : (d : ℕ) (done : List Named) (e : Named) → last_of (language_of d (done ++ e ∷ [])) ≡ e.1
-last_of-push d done e = ap (λ n. relation_of (language_of d (done ++ e ∷ [])) n) (last_place done e) ∙ ap (λ f. f.1) (get_or_push done e ([], no_relation) (length done) refl)
+last_of-push d done e = ap (λ n. relation_of (language_of d (done ++ e ∷ [])) n) (last_place-push done e) ∙ ap (λ f. f.1) (get_or_push done e ([], no_relation) (length done) refl)
 
 with_tuple-accepts : (lang : LanguageView) (t : List ℕ) (last : RelationView) (relations : List Named) → last_of lang ≡ last → has_row last.rows t ≡ false → length last.rows < 128 → with_row_at_last t lang.relations ≡ relations → weight_of 3 relations ≤ most_weight → with_tuple lang t ≡ Ok (language_of lang.domain relations)
 unfolding with_tuple
@@ -156,17 +130,17 @@ pub instance_line-accepts : (lang : LanguageView) (done : List InstanceView) (na
 unfolding instance_line
 instance_line-accepts lang done name variables named new room some few names distinct =
     let long : leb 3 (suc (suc (length variables))) ≡ true = le-leb 3 (suc (suc (length variables))) (omega arith) in
-    let unknown : is_among (map (λ inst. inst.name) done) name ≡ false = false_if_refuted (is_among (map (λ inst. inst.name) done) name) (λ e. new ((has_row-decides (map (λ inst. inst.name) done) name).0 e)) in
+    let unknown = other_name (map (λ inst. inst.name) done) name new in
     let count : suc (suc (length variables)) - 2 ≡ length variables = omega arith in
     let read = names_of_tokens-distinct [] variables variables refl names distinct in
     rw (long, named, unknown, lt-ltb (length done) 8 room, count, le-leb (length variables) 40 few, read) refl
 
 -- the names of variables are read as the variables
-pub scope_of-names : (variables : List (List ℕ)) (scope : List ℕ) → AllPairs (λ x y. x ≢ y) variables → All (λ x. x < length variables) scope → scope_of variables (map (λ x. get_or variables x []) scope) ≡ Ok scope
-scope_of-names variables [] distinct below = refl
-scope_of-names variables (x ∷ scope) distinct below =
+pub scope_of-distinct : (variables : List (List ℕ)) (scope : List ℕ) → AllPairs (λ x y. x ≢ y) variables → All (λ x. x < length variables) scope → scope_of variables (map (λ x. get_or variables x []) scope) ≡ Ok scope
+scope_of-distinct variables [] distinct below = refl
+scope_of-distinct variables (x ∷ scope) distinct below =
     let first = place_in-distinct variables x [] distinct (All-head (λ y. y < length variables) x scope below) in
-    let rest = scope_of-names variables scope distinct (All-tail (λ y. y < length variables) x scope below) in
+    let rest = scope_of-distinct variables scope distinct (All-tail (λ y. y < length variables) x scope below) in
     rw (first, rest) refl
 
 with_constraint_at_last-push : (c : ConstraintView) (done : List InstanceView) (inst : InstanceView) → with_constraint_at_last c (done ++ inst ∷ []) ≡ done ++ record { name = inst.name; variables = inst.variables; constraints = inst.constraints ++ c ∷ [] } ∷ []
@@ -175,7 +149,7 @@ with_constraint_at_last-push c (next ∷ []) inst = refl
 with_constraint_at_last-push c (next ∷ other ∷ done) inst = ap (λ instances. next ∷ instances) (with_constraint_at_last-push c (other ∷ done) inst)
 
 pub last_instance-push : (lang : LanguageView) (done : List InstanceView) (inst : InstanceView) → last_instance (record { language = lang; instances = done ++ inst ∷ [] }) ≡ inst
-last_instance-push lang done inst = ap (λ n. get_or (done ++ inst ∷ []) n no_instance) (last_place done inst) ∙ get_or_push done inst no_instance (length done) refl
+last_instance-push lang done inst = ap (λ n. get_or (done ++ inst ∷ []) n no_instance) (last_place-push done inst) ∙ get_or_push done inst no_instance (length done) refl
 
 -- the name of a relation of the language is read as its number
 pub place_in-names_of : (lang : LanguageView) (r : ℕ) → AllPairs (λ e f. e.0 ≢ f.0) lang.relations → r < length lang.relations → place_in (names_of lang) (name_of lang r) ≡ Some r
@@ -195,7 +169,7 @@ constraint_line-with file last inst c is_last same names distinct fits =
     let count = length (map (λ x. get_or inst.variables x []) c.scope) in
     let long : leb 2 (suc (suc count)) ≡ true = le-leb 2 (suc (suc count)) (omega arith) in
     let arity : eqb (suc (suc count) - 2) (relation_of file.language c.relation).arity ≡ true = eq-eqb (suc (suc count) - 2) (relation_of file.language c.relation).arity (let same_arity = fits.long in omega (arith, length-map c.scope (λ x. get_or inst.variables x []))) in
-    let scope = scope_of-names inst.variables c.scope distinct fits.below in
+    let scope = scope_of-distinct inst.variables c.scope distinct fits.below in
     rw (long, relation, arity, is_last, same, scope) refl
 
 -- the instance with these constraints in place of its own

@@ -15,7 +15,7 @@ use Rattle.std.proofs.lemmas.List.Elements.{All-nil, All-cons, All-head, All-tai
 use Rattle.std.proofs.lemmas.List.Kept.{AllPairs-cons}
 use Rattle.std.proofs.lemmas.List.Quantifiers.{all_pairs_push}
 use Rattle.pol_defs.specs.Tuples.{IsDomain, IsTuple, IsBefore, cell_of}
-use Rattle.pol_defs.specs.Relations.{RelationView, IsRelation, LanguageView, IsRelationOver, IsLanguage, no_relation, relation_of, names_of, is_same, has_name, has_row, with_row, with_relation, with_row_at_last, with_last_row}
+use Rattle.pol_defs.specs.Relations.{RelationView, IsRelation, LanguageView, IsRelationOver, IsLanguage, no_relation, relation_of, names_of, is_same, has_row, with_row, with_relation, with_row_at_last, with_last_row}
 use Rattle.pol_defs.proofs.CellLemmas.{cell_of-before, cell_of-IsTuple}
 use Rattle.pol_defs.proofs.OrderLemmas.{order_of, slice_cmp-before, slice_cmp-same, slice_cmp-after, before-slice_cmp, after-slice_cmp, is_eq-decides, IsBefore-trans}
 use Rattle.pol_defs.proofs.OrderLemmas.Order.{Before, Same, After}
@@ -55,13 +55,6 @@ is_same-decides xs ys = slice_eq-Decides Decides-eqb xs ys (is_same xs ys) refl
 pub has_row-decides : (rows : List (List ℕ)) (t : List ℕ) → Decides (has_row rows t) (Contains rows t)
 has_row-decides rows t =
     Decides-contains rows t (has_row rows t) (Decides-by_or (λ row. is_same row t) (λ row. row ≡ t) (λ some. has_row some t) (λ row. is_same-decides row t) refl (λ _ _. refl) rows)
-
-list_any-names : (name : List ℕ) (relations : List (List ℕ × RelationView)) → list_any (λ e. is_same e.0 name) relations ≡ has_row (map (λ e. e.0) relations) name
-list_any-names name [] = refl
-list_any-names name (e ∷ rest) = ap (λ b. is_same e.0 name || b) (list_any-names name rest)
-
-pub has_name-decides : (lang : LanguageView) (name : List ℕ) → Decides (has_name lang name) (Contains (names_of lang) name)
-has_name-decides lang name = Decides-at (has_name lang name) (has_row (names_of lang) name) (list_any-names name lang.relations) (has_row-decides (names_of lang) name)
 
 -- one step of `with_row`
 

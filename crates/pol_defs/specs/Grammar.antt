@@ -1,6 +1,6 @@
 -- The grammar of files: which texts are accepted, as which file, and the first refusal of every other text.
 use Rattle.std.specs.Prelude.{ℕ, ◌+◌, ◌-◌, ◌^◌, ◌==◌, nat_lt, nat_le, Bool, not, ◌&&◌, List, [], ◌∷◌, ◌++◌, length, drop, map, Option, Some, None, Result, Ok, Err, codes, if◌then◌else◌}
-use Rattle.pol_defs.specs.Relations.{LanguageView, relation_of, last_of, names_of, is_same, is_among, place_in, has_name, has_row, with_relation, with_last_row}
+use Rattle.pol_defs.specs.Relations.{LanguageView, relation_of, last_of, names_of, is_same, is_among, place_in, has_row, with_relation, with_last_row}
 use Rattle.pol_defs.specs.Lines.{LineView, lines_of, significant_lines, token_at, number_of, is_name}
 use Rattle.pol_defs.specs.Refusals.{Word, RefusalView}
 use Rattle.pol_defs.specs.Refusals.Word.{NoHeader, BadVersion, BadDomain, BadLine, BadNumber, BadName, RepeatedName, BadArity, ValueOutside, ShortTuple, LongTuple, TooManyRelations, TooManyTuples, TooManyInstances, TooManyVariables, TooManyConstraints, TripleLimit, SubsetLimit, UnknownRelation, UnknownVariable, Ended}
@@ -42,7 +42,7 @@ begun_relation lang name arity = unless (nat_le 1 arity && nat_le arity 6) BadAr
 
 -- `relation NAME ARITY`, which begins a relation without rows
 unfoldable pub relation_line : LanguageView → List (List ℕ) → Result LanguageView Word
-relation_line lang tokens = unless (length tokens == 3) BadLine (unless (is_name (token_at tokens 1)) BadName (unless (not (has_name lang (token_at tokens 1))) RepeatedName (after_number (number_of (token_at tokens 2)) BadNumber (begun_relation lang (token_at tokens 1)))))
+relation_line lang tokens = unless (length tokens == 3) BadLine (unless (is_name (token_at tokens 1)) BadName (unless (not (is_among (names_of lang) (token_at tokens 1))) RepeatedName (after_number (number_of (token_at tokens 2)) BadNumber (begun_relation lang (token_at tokens 1)))))
 
 -- the values that the tokens write, judged from left to right
 abbrev pub values_of : ℕ → List (List ℕ) → Result (List ℕ) Word

@@ -63,10 +63,6 @@ is_same xs ys = pointwise nat_eq xs ys
 abbrev pub is_among : List (List ℕ) → List ℕ → Bool
 is_among lists xs = list_any (λ ys. is_same ys xs) lists
 
--- a relation of the language has the name
-abbrev pub has_name : LanguageView → List ℕ → Bool
-has_name lang name = list_any (λ e. is_same e.0 name) lang.relations
-
 -- the place of the first of the lists that is this one
 abbrev pub place_in : List (List ℕ) → List ℕ → Option ℕ
 place_in [] xs = None

@@ -1,4 +1,3 @@
-pub mod NameLemmas
 pub mod ValueLemmas
 pub mod InstanceLemmas
 pub mod ReadLemmas

@@ -1,6 +1,6 @@
 ghost use Rattle.std.specs.Prelude.{◌≡◌, ◌-◌, ◌<◌, ◌≤◌, length, drop, true, false, IfOk};
 ghost use Rattle.pol_defs.specs.Tuples.{IsTuple};
-ghost use Rattle.pol_defs.specs.Relations.{last_of, names_of, has_name, has_row};
+ghost use Rattle.pol_defs.specs.Relations.{last_of, names_of, is_among, has_row};
 ghost use Rattle.pol_defs.specs.Lines.{is_name};
 ghost use Rattle.pol_defs.specs.Grammar.{begun_relation, relation_line, tuple_line, with_tuple, language_line, in_language, values_of};
 ghost use Rattle.pol_lang.specs.Reading.{Takes, Changes};
@@ -60,7 +60,7 @@ fn relation_line(alloc: Global, draft: &mut Draft, line: &Line<'_>) -> Result<()
 fn begin_relation(alloc: Global, draft: &mut Draft, name: &[u8], arity: u32) -> Result<(), LineFail>
     requires no_instances { length draft.old.instances ≡ 0 }
     requires name { is_name name.now ≡ true }
-    requires new_name { has_name draft.old.language name.now ≡ false }
+    requires new_name { is_among (names_of draft.old.language) name.now ≡ false }
     ensures changes { Changes result draft.new (in_language draft.old (begun_relation draft.old.language name.now arity)) }
 {
     if arity < 1 || MOST_PLACES < arity {
@@ -78,7 +78,7 @@ fn begin_relation(alloc: Global, draft: &mut Draft, name: &[u8], arity: u32) -> 
 
 /// Whether a relation of the language has the name.
 fn has_relation(language: &Language, name: &[u8]) -> bool
-    ensures name { result ≡ has_name language.now name.now }
+    ensures name { result ≡ is_among (names_of language.now) name.now }
 {
     language.find(name).is_some()
 }

@@ -9,7 +9,7 @@ ghost use Rattle.pol_defs.specs.Grammar.{parse};
 use crate::File;
 use pol_base::{Domain, NoMemory, Values};
 use pol_relation::{Instance, Language, Relation};
-use pol_text::put_number;
+use pol_text::{put_number, put_values};
 
 /// Appends the canonical text of the file, which is read again as the file.
 pub fn put_file(out: &mut Values, file: &File) -> Result<(), NoMemory>
@@ -88,25 +88,6 @@ fn put_tuple(out: &mut Values, row: &[u8]) -> Result<(), NoMemory>
     out.append(b"tuple")?;
     put_values(out, row)?;
     out.append(b"\n")
-}
-
-/// Appends the values, each behind a space.
-fn put_values(out: &mut Values, values: &[u8]) -> Result<(), NoMemory>
-    ensures ok { OnOk result (out.new ≡ out.old ++ spaced values.now) }
-    ensures err { OnErr result (GrowsByFront out.old out.new (spaced values.now)) }
-{
-    for value in values {
-        put_value(out, *value)?;
-    }
-    Ok(())
-}
-
-fn put_value(out: &mut Values, value: u8) -> Result<(), NoMemory>
-    ensures ok { OnOk result (out.new ≡ out.old ++ (codes " " ++ decimal value)) }
-    ensures err { OnErr result (GrowsByFront out.old out.new (codes " " ++ decimal value)) }
-{
-    out.append(b" ")?;
-    put_number(out, u64::from(value))
 }
 
 fn put_instances(out: &mut Values, file: &File) -> Result<(), NoMemory>

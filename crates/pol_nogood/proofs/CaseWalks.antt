@@ -3,19 +3,15 @@ use Rattle.std.proofs.Common.{◌≡◌, ℕ, ◌+◌, ◌<◌, ◌≤◌, Bool,
 use Rattle.std.proofs.lemmas.List.{drop-drop}
 use Rattle.pol_defs.specs.Nogoods.{Pair, StepView, contained_in, reading, is_case, value_case, nogood_at, covered}
 use Rattle.pol_defs.specs.ValidLogs.{row_cases, value_cases}
-use Rattle.pol_defs.proofs.LogWalks.{row_cases-skip, row_cases-next, row_cases-end, values_from, values_from-start, values_from-next, values_from-end}
+use Rattle.pol_defs.proofs.LogWalks.{no_references, row_cases-skip, row_cases-next, row_cases-end, values_from, values_from-start, values_from-next, values_from-end}
 
 module _ (earlier : List StepView) (nogood : List Pair) where
-  no_references : (cases : List (List Pair)) → covered earlier nogood cases [] ≡ true
-  no_references [] = refl
-  no_references (one ∷ cases) = refl
-
   and_true : (b c : Bool) → (b && c) ≡ ((b && true) && c)
   and_true true c = refl
   and_true false c = refl
 
   first : (one : List Pair) (cases : List (List Pair)) (references : List ℕ) → covered earlier nogood (one ∷ cases) references ≡ (covered earlier nogood (one ∷ []) references && covered earlier nogood cases (drop 1 references))
-  first one cases [] = sym (no_references cases)
+  first one cases [] = sym (no_references earlier nogood cases)
   first one cases (r ∷ references) = and_true (contained_in (nogood_at earlier r) (nogood ++ one)) (covered earlier nogood cases references)
 
   -- the case that comes next meets the reference that comes next

@@ -1,6 +1,5 @@
--- The sums over the relations of a language, a relation at a time, and their bounds.
+-- The sums over the relations of a language, a relation at a time.
 use Rattle.std.proofs.Common.{◌≡◌, ℕ, ◌+◌, ◌-◌, ◌^◌, ◌<◌, ◌≤◌, min, List, [], length, take, get_or, sym, ap, ◌∙◌, arith}
-use Rattle.std.proofs.Math.Nat.{pow-le-pow_left, pow-le-pow_right}
 use Rattle.std.proofs.lemmas.List.{take_more}
 use Rattle.pol_defs.specs.Relations.{no_relation}
 use Rattle.pol_defs.specs.Files.{weight_of, subset_weight_of}
@@ -23,12 +22,3 @@ weight_of-next k relations i greatest inside =
 pub subset_weight_of-next : (d : ℕ) (relations : List Named) (i : ℕ) → i < length relations → subset_weight_of d (take i relations) + (2 ^ d - 1) ^ (named_at relations i).1.arity ≡ subset_weight_of d (take (i + 1) relations)
 subset_weight_of-next d relations i inside =
     sym (ap (subset_weight_of d) (take_more relations i ([], no_relation) inside) ∙ subset_weight_of-push d (take i relations) (named_at relations i))
-
--- six nonempty sets of five values have 31 ^ 6 vectors
-pub vectors_few : (d n : ℕ) → d ≤ 5 → n ≤ 6 → (2 ^ d - 1) ^ n ≤ 887503681
-vectors_few d n few short =
-    let sets : 2 ^ d ≤ 2 ^ 5 = pow-le-pow_right {n = 2} (omega arith) {i = d} {j = 5} few in
-    let base : 2 ^ d - 1 ≤ 31 = omega (arith, sets) in
-    let fewer : (2 ^ d - 1) ^ n ≤ 31 ^ n = pow-le-pow_left {n = 2 ^ d - 1} {m = 31} base n in
-    let exponent : 31 ^ n ≤ 31 ^ 6 = pow-le-pow_right {n = 31} (omega arith) {i = n} {j = 6} short in
-    omega (arith, fewer, exponent)

@@ -1,6 +1,7 @@
-ghost use Rattle.std.specs.Prelude.{◌≡◌, ◌++◌, ◌-◌, map, decimal, IsTrue, OnOk, OnErr};
+ghost use Rattle.std.specs.Prelude.{◌≡◌, ◌++◌, ◌-◌, map, codes, decimal, IsTrue, OnOk, OnErr};
 ghost use Rattle.pol_defs.specs.Lines.{number_of, is_number};
 ghost use Rattle.pol_defs.specs.Tuples.{cell_of};
+ghost use Rattle.pol_defs.specs.Texts.{spaced, GrowsByFront};
 
 use itoa::Buffer;
 use pol_base::{NoMemory, Values};
@@ -48,9 +49,41 @@ pub fn put_number(out: &mut Values, n: u64) -> Result<(), NoMemory>
     out.append(buffer.format(n).as_bytes())
 }
 
+/// Appends a space and the number.
+pub fn put_spaced(out: &mut Values, n: u64) -> Result<(), NoMemory>
+    ensures ok { OnOk result (out.new ≡ out.old ++ (codes " " ++ decimal n)) }
+    ensures err { OnErr result (GrowsByFront out.old out.new (codes " " ++ decimal n)) }
+{
+    out.append(b" ")?;
+    put_number(out, n)
+}
+
+/// Appends the values, each behind a space.
+pub fn put_values(out: &mut Values, values: &[u8]) -> Result<(), NoMemory>
+    ensures ok { OnOk result (out.new ≡ out.old ++ spaced values.now) }
+    ensures err { OnErr result (GrowsByFront out.old out.new (spaced values.now)) }
+{
+    for value in values {
+        put_spaced(out, u64::from(*value))?;
+    }
+    Ok(())
+}
+
+/// Appends the numbers, each behind a space.
+pub fn put_numbers(out: &mut Values, numbers: &[u32]) -> Result<(), NoMemory>
+    ensures ok { OnOk result (out.new ≡ out.old ++ spaced numbers.now) }
+    ensures err { OnErr result (GrowsByFront out.old out.new (spaced numbers.now)) }
+{
+    for number in numbers {
+        put_spaced(out, u64::from(*number))?;
+    }
+    Ok(())
+}
+
 #[cfg(test)]
 mod tests {
     use super::*;
+    use std::test::Fail;
 
     #[test]
     fn reads_one_to_nine_digits(rt: HostRuntime) {
@@ -66,5 +99,15 @@ mod tests {
         for (token, value) in cases {
             assert_eq!(rt; number(token), value, "at {token:?}");
         }
+    }
+
+    #[test]
+    fn prints_numbers_behind_spaces(rt: HostRuntime) -> Result<(), Fail> {
+        let mut out = Values::new(rt.alloc());
+        put_values(&mut out, &[0, 4, 255])?;
+        put_numbers(&mut out, &[15_625, 0, u32::MAX])?;
+        put_values(&mut out, &[])?;
+        assert_eq!(rt; out.as_slice(), b" 0 4 255 15625 0 4294967295".as_slice());
+        Ok(())
     }
 }

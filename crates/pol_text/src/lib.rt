@@ -8,7 +8,7 @@ mod refusal;
 mod tokens;
 mod word;
 
-pub use decimals::{number, put_number};
+pub use decimals::{number, put_number, put_numbers, put_spaced, put_values};
 pub use lines::{Line, Lines, count_lines, significant};
 pub use names::is_name;
 pub use refusal::{ReadFail, Refusal, put_refusal};

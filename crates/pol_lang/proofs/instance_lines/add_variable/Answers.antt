@@ -2,7 +2,7 @@ use Rattle.std.proofs.Common.{◌≡◌, true, false, Err, refl, ap, rules}
 use Rattle.pol_defs.specs.Lines.{is_name}
 use Rattle.pol_defs.specs.Relations.{is_among}
 use Rattle.pol_defs.proofs.RelationLemmas.{has_row-decides}
-use Rattle.pol_defs.proofs.LimitLemmas.{other_name}
+use Rattle.pol_defs.proofs.NameLemmas.{other_name}
 use Rattle.pol_lang.proofs.instance_lines.add_variable.Goals as goal
 
 pub returns-in-Ok : goal.returns-in-Ok

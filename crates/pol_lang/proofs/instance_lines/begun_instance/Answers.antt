@@ -4,7 +4,7 @@ use Rattle.pol_defs.specs.Instances.{with_variable}
 use Rattle.pol_defs.specs.Lines.{is_name}
 use Rattle.pol_defs.specs.Relations.{is_among}
 use Rattle.pol_defs.specs.Grammar.{names_of_tokens}
-use Rattle.pol_defs.proofs.LimitLemmas.{IsFileInstance-names}
+use Rattle.pol_defs.proofs.FileLemmas.{IsFileInstance-names}
 use Rattle.pol_lang.proofs.InstanceLemmas.{refused_name}
 use Rattle.pol_lang.proofs.instance_lines.begun_instance.Goals as goal
 

@@ -1,5 +1,5 @@
 use Rattle.pol_defs.specs.Relations.{names_of}
-use Rattle.pol_defs.proofs.LimitLemmas.{lookup-place_in, relation-lookup, distinct_names}
+use Rattle.pol_defs.proofs.NameLemmas.{lookup-place_in, relation-lookup, distinct_names}
 use Rattle.pol_lang.proofs.instance_lines.find_relation.Goals as goal
 
 pub returns-clause-place : goal.returns-clause-place

@@ -1,4 +1,4 @@
-use Rattle.pol_defs.proofs.LimitLemmas.{lookup-place_in}
+use Rattle.pol_defs.proofs.NameLemmas.{lookup-place_in}
 use Rattle.pol_lang.proofs.instance_lines.find_variable.Goals as goal
 
 pub returns : goal.returns

@@ -1,6 +1,6 @@
 use Rattle.std.proofs.Common.{◌∙◌}
 use Rattle.pol_defs.specs.Grammar.{instance_names}
-use Rattle.pol_defs.proofs.LimitLemmas.{is_some-lookup, instance-lookup}
+use Rattle.pol_defs.proofs.NameLemmas.{is_some-lookup, instance-lookup}
 use Rattle.pol_lang.proofs.instance_lines.has_instance.Goals as goal
 
 pub returns : goal.returns

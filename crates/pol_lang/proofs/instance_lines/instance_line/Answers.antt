@@ -1,7 +1,7 @@
 use Rattle.std.proofs.Common.{◌≡◌, ◌<◌, false, length, Contains, subst, rules}
 use Rattle.pol_defs.specs.Relations.{is_among}
 use Rattle.pol_defs.specs.Grammar.{instance_names}
-use Rattle.pol_defs.proofs.LimitLemmas.{absent_name}
+use Rattle.pol_defs.proofs.NameLemmas.{absent_name}
 use Rattle.pol_lang.proofs.instance_lines.instance_line.Goals as goal
 
 -- the name is new, and there is room

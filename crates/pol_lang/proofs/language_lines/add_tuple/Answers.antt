@@ -2,7 +2,8 @@ use Rattle.std.proofs.Common.{◌≡◌, ◌<◌, ◌≤◌, false, length, ap, 
 use Rattle.pol_defs.specs.Relations.{last_of, has_row, with_last_row}
 use Rattle.pol_defs.specs.Files.{weight_of, most_weight}
 use Rattle.pol_defs.specs.Grammar.{in_language}
-use Rattle.pol_defs.proofs.LimitLemmas.{absent_name, with_tuple-heavy, with_tuple-new}
+use Rattle.pol_defs.proofs.NameLemmas.{absent_name}
+use Rattle.pol_defs.proofs.LimitLemmas.{with_tuple-heavy, with_tuple-new}
 use Rattle.pol_lang.proofs.language_lines.add_tuple.Goals as goal
 
 pub returns-then-triples_with_row-gt-MOST_WEIGHT : goal.returns-then-triples_with_row-gt-MOST_WEIGHT

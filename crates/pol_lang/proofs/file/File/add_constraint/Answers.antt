@@ -4,8 +4,7 @@ use Rattle.pol_defs.specs.Instances.{ConstraintView, with_constraint}
 use Rattle.pol_defs.specs.Relations.{relation_of}
 use Rattle.pol_defs.specs.Files.{FileView, no_instance, with_constraint_at_last}
 use Rattle.pol_defs.proofs.RelationLemmas.{IsRelationOver-relation_of}
-use Rattle.pol_defs.proofs.FileLemmas.{IsFile-with_last_constraint}
-use Rattle.pol_defs.proofs.LimitLemmas.{set-with_constraint}
+use Rattle.pol_defs.proofs.FileLemmas.{IsFile-with_last_constraint, set-with_constraint}
 use Rattle.pol_lang.proofs.file.File.add_constraint.Goals as goal
 
 abbrev constraint : goal.In_ok-add_constraint → ConstraintView

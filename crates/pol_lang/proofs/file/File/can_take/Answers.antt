@@ -3,7 +3,7 @@ use Rattle.std.proofs.lemmas.Bool.{false≢true}
 use Rattle.pol_defs.specs.Relations.{is_among}
 use Rattle.pol_defs.specs.Grammar.{instance_names}
 use Rattle.pol_defs.proofs.RelationLemmas.{has_row-decides}
-use Rattle.pol_defs.proofs.LimitLemmas.{is_some-lookup, instance-lookup}
+use Rattle.pol_defs.proofs.NameLemmas.{is_some-lookup, instance-lookup}
 use Rattle.pol_lang.proofs.file.File.can_take.Goals as goal
 
 -- an instance that is there has the name

@@ -1,5 +1,5 @@
 use Rattle.std.proofs.Common.{arith}
-use Rattle.pol_defs.proofs.LimitLemmas.{absent_instance}
+use Rattle.pol_defs.proofs.NameLemmas.{absent_instance}
 use Rattle.pol_lang.proofs.file.File.find_instance.Goals as goal
 
 -- no instance of the file has the name

@@ -1,6 +1,6 @@
 use Rattle.std.proofs.Common.{◌≡◌, ◌++◌, take, codes, decimal}
 use Rattle.pol_defs.proofs.TextLemmas.{joined}
-use Rattle.pol_lang.proofs.writing.put_values.Given as goal
+use Rattle.pol_text.proofs.decimals.put_values.Given as goal
 
 -- the values so far stand behind the old
 abbrev pub invariant-loop-value : goal.invariant-loop-value

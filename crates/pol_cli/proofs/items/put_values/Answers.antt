@@ -1,7 +1,0 @@
-use Rattle.std.proofs.Common.{arith}
-use Rattle.pol_cli.proofs.PrintLemmas.{number_more}
-use Rattle.pol_cli.proofs.items.put_values.Goals as goal
-
-pub loop-value-preserved : goal.loop-value-preserved
-loop-value-preserved c =
-    number_more _ _ _ _ _ _ _ (omega arith) c.from.ensures c.loop-value.invariant c.in_ok-append.ensures.ok c.in_ok-put_number.ensures.ok
