@@ -1,10 +1,10 @@
 -- Each printed line of a file is accepted behind the lines before it, with the entry that it prints.
-use Rattle.std.proofs.Common.{◌≡◌, ◌≢◌, ℕ, zero, suc, inl, inr, ◌+◌, ◌-◌, ◌^◌, ◌<◌, ◌≤◌, Bool, true, false, leb, eqb, List, [], ◌∷◌, ◌++◌, length, map, get_or, Some, Ok, All, AllPairs, Contains, refl, ap, sym, ◌∙◌, subst, arith, codes, decimal, append_assoc, length-append}
+use Rattle.std.proofs.Common.{◌≡◌, ◌≢◌, ℕ, suc, ◌+◌, ◌-◌, ◌^◌, ◌<◌, ◌≤◌, true, false, leb, eqb, List, [], ◌∷◌, ◌++◌, length, map, get_or, Some, Ok, All, AllPairs, Contains, refl, ap, sym, ◌∙◌, subst, arith, codes, decimal, append_assoc, length-append}
 use Rattle.std.proofs.lemmas.Bool.{false_from_ne_true, lt-ltb, le-leb, eq-eqb}
 use Rattle.std.proofs.lemmas.List.{append-nil, get_or_append_left, get_or_at, get_or_push, get_or-map, length-map}
 use Rattle.std.proofs.lemmas.List.Elements.{All-head, All-tail}
 use Rattle.pol_defs.specs.Tuples.{IsTuple, IsBefore}
-use Rattle.pol_defs.specs.Relations.{RelationView, LanguageView, no_relation, relation_of, last_of, name_of, names_of, is_same, is_among, place_in, has_row, with_row, with_row_at_last}
+use Rattle.pol_defs.specs.Relations.{RelationView, LanguageView, no_relation, relation_of, last_of, name_of, names_of, is_among, place_in, has_row, with_row, with_row_at_last}
 use Rattle.pol_defs.specs.Instances.{ConstraintView, InstanceView, FitsAt}
 use Rattle.pol_defs.specs.Lines.{is_name}
 use Rattle.pol_defs.specs.Files.{FileView, weight_of, subset_weight_of, most_weight, no_instance, last_instance, with_constraint_at_last}

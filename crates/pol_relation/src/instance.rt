@@ -177,50 +177,39 @@ impl Instance {
 #[cfg(test)]
 mod tests {
     use super::*;
-    use crate::Relation;
-    use pol_base::Domain;
     use std::test::Fail;
 
     #[test]
-    fn numbers_its_variables_and_constraints_as_they_come(rt: HostRuntime) -> Result<(), Fail> {
+    fn numbers_its_variables_as_they_come(rt: HostRuntime) -> Result<(), Fail> {
         let mut instance = Instance::new(rt.alloc(), b"small")?;
         assert_eq!(rt; instance.add_variable(b"x"), Ok(0));
         assert_eq!(rt; instance.add_variable(b"y"), Ok(1));
         assert_eq!(rt; instance.add_variable(b"x"), Err(AddFault::Repeated));
-        instance.add_constraint(3, &[1, 0, 1])?;
-        instance.add_constraint(0, &[0])?;
         assert_eq!(rt; instance.name(), b"small".as_slice());
         assert_eq!(rt; instance.variables(), 2);
-        assert_eq!(rt; instance.variable(0), b"x".as_slice());
         assert_eq!(rt; instance.variable(1), b"y".as_slice());
-        assert_eq!(rt; instance.find_variable(b"y"), Some(1));
-        assert_eq!(rt; instance.find_variable(b"z"), None);
-        assert_eq!(rt; instance.constraints(), 2);
-        assert_eq!(rt; instance.relation_of(0), 3);
-        assert_eq!(rt; instance.scope(0), [1, 0, 1].as_slice());
-        assert_eq!(rt; instance.relation_of(1), 0);
-        assert_eq!(rt; instance.scope(1), [0].as_slice());
+        for (name, number) in [
+            (b"x".as_slice(), Some(0)),
+            (b"y".as_slice(), Some(1)),
+            (b"z".as_slice(), None),
+        ] {
+            assert_eq!(rt; instance.find_variable(name), number, "at {name:?}");
+        }
         Ok(())
     }
 
     #[test]
-    fn fits_by_its_relations_and_their_arities(rt: HostRuntime) -> Result<(), Fail> {
-        let alloc = rt.alloc();
-        let d = Domain::new(2).expect(&rt, "two values");
-        let mut language = Language::new(alloc, d);
-        language.add(b"edge", Relation::from_rows(alloc, d, 2, &[0, 1])?)?;
-        let cases = [
-            (0u32, [0, 0].as_slice(), true),
-            (0, [0].as_slice(), false),
-            (1, [0, 0].as_slice(), false),
-        ];
-        for (relation, scope, fits) in cases {
-            assert!(rt; 1 <= scope.len() && scope.len() <= 6);
-            assert!(rt; scope.iter().all(|variable| *variable < 1));
-            let mut instance = Instance::new(alloc, b"small")?;
-            instance.add_variable(b"x")?;
-            instance.add_constraint(relation, scope)?;
-            assert_eq!(rt; instance.fits(&language), fits, "at {relation} {scope:?}");
+    fn numbers_its_constraints_as_they_come(rt: HostRuntime) -> Result<(), Fail> {
+        let mut instance = Instance::new(rt.alloc(), b"small")?;
+        instance.add_variable(b"x")?;
+        instance.add_variable(b"y")?;
+        instance.add_constraint(3, &[1, 0, 1])?;
+        instance.add_constraint(0, &[0])?;
+        assert_eq!(rt; instance.constraints(), 2);
+        for (c, relation, scope) in [(0, 3, [1, 0, 1].as_slice()), (1, 0, [0].as_slice())] {
+            assert!(rt; c < instance.constraints());
+            assert_eq!(rt; instance.relation_of(c), relation, "at {c}");
+            assert_eq!(rt; instance.scope(c), scope, "at {c}");
         }
         Ok(())
     }

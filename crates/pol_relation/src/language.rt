@@ -195,13 +195,18 @@ mod tests {
         let alloc = rt.alloc();
         let d = Domain::new(2).expect(&rt, "two values");
         let mut language = Language::new(alloc, d);
-        let first = Relation::from_rows(alloc, d, 2, &[])?;
-        assert_eq!(rt; language.add(b"neq", first), Ok(0));
-        let second = Relation::from_rows(alloc, d, 1, &[])?;
-        assert_eq!(rt; language.add(b"ne", second), Ok(1));
-        let repeated = Relation::from_rows(alloc, d, 3, &[])?;
-        assert_eq!(rt; language.add(b"neq", repeated), Err(AddFault::Repeated));
+        for (name, arity, number) in [
+            (b"neq".as_slice(), 2, Ok(0)),
+            (b"ne".as_slice(), 1, Ok(1)),
+            (b"neq".as_slice(), 3, Err(AddFault::Repeated)),
+        ] {
+            assert!(rt; language.len() < 4096 && language.domain() == d);
+            let relation = relation(&rt, alloc, d, arity, &[])?;
+            assert_eq!(rt; language.add(name, relation), number, "at {name:?} {arity}");
+        }
         assert_eq!(rt; language.len(), 2);
+        assert_eq!(rt; language.name(1), b"ne".as_slice());
+        assert_eq!(rt; language.relation(0).arity(), 2);
         for (name, number) in [
             (b"neq".as_slice(), Some(0)),
             (b"ne".as_slice(), Some(1)),
@@ -209,8 +214,6 @@ mod tests {
         ] {
             assert_eq!(rt; language.find(name), number, "at {name:?}");
         }
-        assert_eq!(rt; language.name(1), b"ne".as_slice());
-        assert_eq!(rt; language.relation(0).arity(), 2);
         Ok(())
     }
 

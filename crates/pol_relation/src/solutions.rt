@@ -134,4 +134,22 @@ mod tests {
         }
         Ok(())
     }
+
+    #[test]
+    fn fits_by_its_relations_and_their_arities(rt: HostRuntime) -> Result<(), Fail> {
+        let alloc = rt.alloc();
+        let language = language(&rt, alloc)?;
+        let cases = [
+            (0, [0, 2].as_slice(), true),
+            (0, [0].as_slice(), false),
+            (1, [2, 2, 1].as_slice(), true),
+            (1, [0, 1].as_slice(), false),
+            (2, [0, 1].as_slice(), false),
+        ];
+        for (relation, scope, fits) in cases {
+            let instance = instance(&rt, alloc, &[(relation, scope)])?;
+            assert_eq!(rt; instance.fits(&language), fits, "at {relation} {scope:?}");
+        }
+        Ok(())
+    }
 }

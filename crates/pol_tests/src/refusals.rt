@@ -1,6 +1,6 @@
 use crate::harness::{lines, run_on};
 use pol_base::{NoMemory, Values};
-use pol_text::put_number;
+use pol_text::{put_number, put_spaced};
 use std::alloc::Global;
 use std::test::Fail;
 
@@ -143,11 +143,8 @@ fn put_tuples(text: &mut Values, count: u32, base: u32, arity: u32) -> Result<()
     for number in 0..count {
         text.append(b"tuple")?;
         for place in 0..arity {
-            text.append(b" ")?;
-            put_number(
-                text,
-                u64::from(number / base.saturating_pow(arity - 1 - place).max(1) % base.max(1)),
-            )?;
+            let digit = number / base.saturating_pow(arity - 1 - place).max(1) % base.max(1);
+            put_spaced(text, u64::from(digit))?;
         }
         text.append(b"\n")?;
     }
@@ -165,8 +162,7 @@ fn put_relations(
     for number in first..end {
         text.append(b"relation r")?;
         put_number(text, u64::from(number))?;
-        text.append(b" ")?;
-        put_number(text, u64::from(arity))?;
+        put_spaced(text, u64::from(arity))?;
         text.append(b"\n")?;
         put_tuples(text, tuples, 2, arity)?;
     }
