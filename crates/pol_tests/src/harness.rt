@@ -3,6 +3,8 @@ use pol_base::{NoMemory, Values};
 use pol_cli::run;
 use pol_outside::{MemorySink, MemorySource};
 use std::alloc::Global;
+use std::process::Abort;
+use std::test::Fail;
 
 /// What was written, and the status.
 #[derive(Debug, Drop)]
@@ -31,4 +33,23 @@ pub(crate) fn lines(alloc: Global, text: &[u8]) -> Result<Values, NoMemory> {
         bytes.push(if *byte == b'|' { b'\n' } else { *byte })?;
     }
     Ok(bytes)
+}
+
+/// For the input `report` writes the text, given with bars for its LF, and ends with the status of a
+/// refusal or of a report.
+pub(crate) fn assert_written(
+    rt: &impl Abort,
+    alloc: Global,
+    input: &[u8],
+    text: &[u8],
+) -> Result<(), Fail> {
+    let done = run_on(alloc, "report", input)?;
+    assert_eq!(rt;
+        done.text.as_slice(),
+        lines(alloc, text)?.as_slice(),
+        "at {input:?}"
+    );
+    let status = if text.starts_with(b"refused ") { 3 } else { 0 };
+    assert_eq!(rt; done.status, status, "at {input:?}");
+    Ok(())
 }

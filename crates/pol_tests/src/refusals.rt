@@ -1,4 +1,4 @@
-use crate::harness::{lines, run_on};
+use crate::harness::{assert_written, lines};
 use pol_base::{NoMemory, Values};
 use pol_text::{put_number, put_spaced};
 use std::alloc::Global;
@@ -58,13 +58,7 @@ fn refusals_of_languages(rt: HostRuntime) -> Result<(), Fail> {
         (b"polyanna 1|domain 2|end x|", b"refused 3 BadLine|"),
     ];
     for (input, refusal) in cases {
-        let done = run_on(alloc, "report", lines(alloc, input)?.as_slice())?;
-        assert_eq!(rt;
-            done.text.as_slice(),
-            lines(alloc, refusal)?.as_slice(),
-            "at {input:?}"
-        );
-        assert_eq!(rt; done.status, 3);
+        assert_written(&rt, alloc, lines(alloc, input)?.as_slice(), refusal)?;
     }
     Ok(())
 }
@@ -112,13 +106,7 @@ fn refusals_of_instances(rt: HostRuntime) -> Result<(), Fail> {
         ),
     ];
     for (input, refusal) in cases {
-        let done = run_on(alloc, "report", lines(alloc, input)?.as_slice())?;
-        assert_eq!(rt;
-            done.text.as_slice(),
-            lines(alloc, refusal)?.as_slice(),
-            "at {input:?}"
-        );
-        assert_eq!(rt; done.status, 3);
+        assert_written(&rt, alloc, lines(alloc, input)?.as_slice(), refusal)?;
     }
     Ok(())
 }
@@ -192,8 +180,7 @@ fn refusals_at_the_limits_on_numbers(rt: HostRuntime) -> Result<(), Fail> {
         (&constraints, b"refused 262 TooManyConstraints|"),
     ];
     for (input, refusal) in cases {
-        let done = run_on(alloc, "report", input.as_slice())?;
-        assert_eq!(rt; done.text.as_slice(), lines(alloc, refusal)?.as_slice());
+        assert_written(&rt, alloc, input.as_slice(), refusal)?;
     }
     Ok(())
 }
@@ -247,8 +234,7 @@ fn limits_on_tuples(rt: HostRuntime) -> Result<(), Fail> {
         let mut input = lines(alloc, front)?;
         put_tuples(&mut input, count, base, arity)?;
         input.append(lines(alloc, behind)?.as_slice())?;
-        let done = run_on(alloc, "report", input.as_slice())?;
-        assert_eq!(rt; done.text.as_slice(), lines(alloc, written)?.as_slice());
+        assert_written(&rt, alloc, input.as_slice(), written)?;
     }
     Ok(())
 }
@@ -292,8 +278,7 @@ fn limits_on_sums_of_32_relations(rt: HostRuntime) -> Result<(), Fail> {
     for (front, behind, written) in cases {
         let mut input = Values::from_slice(alloc, front.as_slice())?;
         input.append(lines(alloc, behind)?.as_slice())?;
-        let done = run_on(alloc, "report", input.as_slice())?;
-        assert_eq!(rt; done.text.as_slice(), lines(alloc, written)?.as_slice());
+        assert_written(&rt, alloc, input.as_slice(), written)?;
     }
     Ok(())
 }

@@ -1,4 +1,4 @@
-use crate::harness::{lines, run_on};
+use crate::harness::{assert_written, lines};
 use std::test::Fail;
 
 #[test]
@@ -43,13 +43,7 @@ fn reports_of_small_files(rt: HostRuntime) -> Result<(), Fail> {
         ),
     ];
     for (input, report) in cases {
-        let done = run_on(alloc, "report", lines(alloc, input)?.as_slice())?;
-        assert_eq!(rt;
-            done.text.as_slice(),
-            lines(alloc, report)?.as_slice(),
-            "at {input:?}"
-        );
-        assert_eq!(rt; done.status, 0);
+        assert_written(&rt, alloc, lines(alloc, input)?.as_slice(), report)?;
     }
     Ok(())
 }
