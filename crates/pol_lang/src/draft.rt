@@ -43,6 +43,7 @@ impl Draft {
         ensures file { result.now ≡ self.now }
         ensures is_file { IsFile self.now }
     {
+        // for its clause that a file is within the limits
         let _language = self.file.lang();
         &self.file
     }

@@ -95,6 +95,7 @@ impl File {
     pub(crate) fn begin(alloc: Global, d: Domain) -> File
         ensures begun { result ≡ begun_file d }
     {
+        // for its clause that a domain has 1 to 5 values
         let _size = d.size();
         File {
             language: Language::new(alloc, d),

@@ -131,6 +131,7 @@ fn find_relation(language: &Language, name: &[u8]) -> Option<u32>
     ensures known { IfSome result (λ relation. relation < length language.now.relations) }
     ensures place { result ≡ place_in (names_of language.now) name.now }
 {
+    // for its clause that the names are distinct
     let _relations = language.len();
     language.find(name)
 }
@@ -139,6 +140,7 @@ fn find_relation(language: &Language, name: &[u8]) -> Option<u32>
 fn find_variable(inst: &Instance, name: &[u8]) -> Option<u32>
     ensures place { result ≡ place_in inst.now.variables name.now }
 {
+    // for its clause that the names are distinct
     let _variables = inst.variables();
     inst.find_variable(name)
 }

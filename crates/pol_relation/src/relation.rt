@@ -29,6 +29,7 @@ impl Relation {
         requires few_places { arity ≤ 6 }
         ensures empty { result ≡ record { domain = d; arity = arity; rows = [] } }
     {
+        // for its clause that a domain has 1 to 5 values
         let _size = d.size();
         Relation {
             domain: d,
