@@ -78,31 +78,6 @@ impl File {
         Ok(())
     }
 
-    /// Whether the instance fits, its name is new, and there is room for it.
-    fn can_take(&self, inst: &Instance) -> bool
-        ensures can_take { IsTrue result ↔ CanTake self.now inst.now }
-    {
-        if MOST_INSTANCES <= self.instances() {
-            return false;
-        }
-        if self.find_instance(inst.name()).is_some() {
-            return false;
-        }
-        is_file_instance(self.lang(), inst)
-    }
-
-    /// The file without relations and instances. Takes no memory.
-    pub(crate) fn begin(alloc: Global, d: Domain) -> File
-        ensures begun { result ≡ begun_file d }
-    {
-        // for its clause that a domain has 1 to 5 values
-        let _size = d.size();
-        File {
-            language: Language::new(alloc, d),
-            instances: Vec::new(alloc),
-        }
-    }
-
     pub fn lang(&self) -> &Language
         ensures language { result.now ≡ self.now.language }
         ensures file { IsFile self.now }
@@ -127,14 +102,6 @@ impl File {
         &self.instances[i as usize]
     }
 
-    /// The instance that was added last.
-    pub(crate) fn last_instance(&self) -> &Instance
-        requires some { 0 < length self.now.instances }
-        ensures instance { result.now ≡ last_instance self.now }
-    {
-        self.instance(self.instances() - 1)
-    }
-
     /// The number of the instance that has the name.
     pub fn find_instance(&self, name: &[u8]) -> Option<u32>
         ensures known { IfSome result (λ i. i < length self.now.instances) }
@@ -147,6 +114,42 @@ impl File {
             }
         }
         None
+    }
+
+    /// Whether the instance fits, its name is new, and there is room for it.
+    fn can_take(&self, inst: &Instance) -> bool
+        ensures can_take { IsTrue result ↔ CanTake self.now inst.now }
+    {
+        if MOST_INSTANCES <= self.instances() {
+            return false;
+        }
+        if self.find_instance(inst.name()).is_some() {
+            return false;
+        }
+        is_file_instance(self.lang(), inst)
+    }
+}
+
+/// What the reader makes a file by.
+impl File {
+    /// The file without relations and instances. Takes no memory.
+    pub(crate) fn begin(alloc: Global, d: Domain) -> File
+        ensures begun { result ≡ begun_file d }
+    {
+        // for its clause that a domain has 1 to 5 values
+        let _size = d.size();
+        File {
+            language: Language::new(alloc, d),
+            instances: Vec::new(alloc),
+        }
+    }
+
+    /// The instance that was added last.
+    pub(crate) fn last_instance(&self) -> &Instance
+        requires some { 0 < length self.now.instances }
+        ensures instance { result.now ≡ last_instance self.now }
+    {
+        self.instance(self.instances() - 1)
     }
 
     /// Adds a relation without rows under a name that is not there.
