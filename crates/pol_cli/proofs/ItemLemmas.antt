@@ -1,22 +1,15 @@
 -- What the printed lines of an instance are as items of a report.
-use Rattle.std.proofs.Common.{◌≡◌, ℕ, suc, ◌+◌, ◌<◌, List, ◌++◌, length, Option, Some, None, refl, sym, ap, subst, ◌∙◌, add-one}
+use Rattle.std.proofs.Common.{◌≡◌, ℕ, suc, ◌+◌, ◌<◌, List, ◌++◌, length, Option, Some, refl, sym, ap, subst, ◌∙◌, add-one}
 use Rattle.pol_defs.specs.Relations.{LanguageView}
 use Rattle.pol_defs.specs.Instances.{InstanceView, IsSolution}
 use Rattle.pol_defs.specs.Nogoods.{StepView}
 use Rattle.pol_defs.specs.Classes.{ConstantLine}
 use Rattle.pol_defs.specs.Classes.Class.{Constant}
 use Rattle.pol_defs.specs.Files.{FileView, instance_of}
-use Rattle.pol_defs.specs.Reports.{IsInstanceItem, HasItems, IsReport, item_count, head_line, last_line, class_line, undecided_line, yes_line, no_lines}
+use Rattle.pol_defs.specs.Reports.{IsInstanceItem, HasItems, IsReport, item_count, head_line, last_line, class_line, yes_line, no_lines}
 use Rattle.pol_defs.proofs.ReportLemmas.{HasItems-none, HasItems-push, IsReport-from_items}
 use Rattle.pol_nogood.specs.Answers.{IsCertificate}
 use Rattle.pol_cli.specs.Items.{AppendsItem}
-
-pub appends_undecided : (lang : LanguageView) (inst : InstanceView) (name old new : List ℕ) → ConstantLine lang None → name ≡ inst.name → new ≡ old ++ undecided_line name → AppendsItem lang inst old new
-appends_undecided lang inst name old new line same text = record {
-  item = undecided_line inst.name;
-  right = IsInstanceItem.undecided line refl;
-  appended = text ∙ ap (λ some. old ++ undecided_line some) same;
-}
 
 pub appends_yes : (lang : LanguageView) (inst : InstanceView) (cells values given name old new : List ℕ) → ConstantLine lang (Some cells) → IsSolution lang inst values → name ≡ inst.name → given ≡ values → new ≡ old ++ yes_line name Constant given → AppendsItem lang inst old new
 appends_yes lang inst cells values given name old new line solution same same_values text = record {

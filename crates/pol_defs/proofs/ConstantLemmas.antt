@@ -1,12 +1,12 @@
 -- Constant operations: their tables, which relations they preserve, and the line of the class `constant`.
 use Rattle.std.proofs.Common.{◌≡◌, ℕ, zero, suc, ◌^◌, ◌<◌, ◌≤◌, ◌⊎◌, inl, inr, List, [], ◌∷◌, length, map, get_or, replicate, Some, None, All, Contains, refl, sym, ap, ◌∙◌, subst, arith}
-use Rattle.std.specs.List.{Any, range_with_len}
+use Rattle.std.specs.List.{range_with_len}
 use Rattle.std.proofs.Math.Nat.{pow-zero, pow-suc}
 use Rattle.std.proofs.lemmas.List.{length-replicate, get_or-replicate, ext_get_or}
-use Rattle.std.proofs.lemmas.List.Elements.{All-nil, All-cons, All-head, All-replicate, All-contains, All-from_get_or, Contains-get_or}
+use Rattle.std.proofs.lemmas.List.Elements.{All-nil, All-cons, All-head, All-replicate, All-contains, Contains-get_or}
 use Rattle.std.proofs.lemmas.List.FromFn.{length-map-range_with_len, get_or-map-range_with_len}
 use Rattle.pol_defs.specs.Tuples.{IsTuple, IsBefore, cell_of}
-use Rattle.pol_defs.specs.Relations.{RelationView, IsRelation, LanguageView, IsLanguage, no_relation, relation_of}
+use Rattle.pol_defs.specs.Relations.{RelationView, IsRelation, LanguageView, IsLanguage}
 use Rattle.pol_defs.specs.Operations.{Operation, IsOperation, value_at, image, Preserves}
 use Rattle.pol_defs.specs.Classes.{IsConstant, IsTable, ConstantLine, HoldsConstant, ClosedUnder}
 use Rattle.pol_defs.proofs.RelationLemmas.{Contains-nil}
@@ -95,9 +95,6 @@ pub holds_from_preserves : (d a : ℕ) (r : RelationView) → IsRelation r → r
 holds_from_preserves d a r is same preserves =
     holds_rows d r.arity a r.rows (subst (λ size. All (IsTuple size r.arity) r.rows) same is.tuples) preserves
 
-pub ClosedUnder-from_places : (lang : LanguageView) (a : ℕ) → ((r : ℕ) → r < length lang.relations → HoldsConstant (relation_of lang r) a) → ClosedUnder lang a
-ClosedUnder-from_places lang a holds = All-from_get_or (λ named. HoldsConstant named.1 a) lang.relations ([], no_relation) holds
-
 -- what is known of a table of the class `constant`
 pub record IsClosedConstant (lang : LanguageView) (cells : List ℕ) : Type 0 where
   pub value : ℕ
@@ -142,10 +139,6 @@ pub constant_line_none : (lang : LanguageView) → IsLanguage lang → ((b : ℕ
 constant_line_none lang is none = λ cells table.
     let other = closed_from_table lang cells is table in
     none other.value other.below other.closed
-
--- one relation that is neither empty nor has the tuple is enough
-pub not_closed : (lang : LanguageView) (b : ℕ) → Any (λ named. HoldsConstant named.1 b → ⊥) lang.relations → ClosedUnder lang b → ⊥
-not_closed lang b broken closed = broken.4 (subst (λ named. HoldsConstant named.1 b) broken.3 (closed broken.0 broken.1 broken.2))
 
 -- the value of the operation whose table is the line
 pub record IsLineValue (lang : LanguageView) (cells : List ℕ) : Type 0 where

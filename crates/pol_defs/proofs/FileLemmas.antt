@@ -8,7 +8,7 @@ use Rattle.pol_defs.specs.Relations.{RelationView, IsRelationOver, LanguageView,
 use Rattle.pol_defs.specs.Instances.{ConstraintView, InstanceView, IsScope, FitsAt, with_constraint}
 use Rattle.pol_defs.specs.Lines.{is_name}
 use Rattle.pol_defs.specs.Files.{weight_of, subset_weight_of, most_weight, IsFileLanguage, IsFileInstance, FileView, IsFile, no_instance, last_instance, with_instance, with_constraint_at_last, with_last_constraint}
-use Rattle.pol_defs.specs.Grammar.{instance_names, begun_file, names_of_tokens}
+use Rattle.pol_defs.specs.Grammar.{instance_names, names_of_tokens}
 use Rattle.pol_defs.proofs.RelationLemmas.{Named, AllPairs-nil, AreLong-tuples, relation_with_row, length-with_row_new, length-with_relation, length-with_last_row, IsRelation-begun, IsRelationOver-relation_of, IsLanguage-begun, IsLanguage-with_relation, IsLanguage-with_last_row}
 use Rattle.pol_defs.proofs.AcceptedLines.{names_of_tokens-names}
 
@@ -131,9 +131,6 @@ IsFile-without_instances lang instances is none = record {
   few_instances = omega arith;
 }
 
-pub IsFile-begun : (d : ℕ) → IsDomain d → IsFile (begun_file d)
-IsFile-begun d domain = IsFile-without_instances (record { domain = d; relations = [] }) [] (IsFileLanguage-begun d domain) refl
-
 -- a file without instances begins a relation within the limits
 pub IsFile-with_relation : (file : FileView) (name : List ℕ) (arity : ℕ) → IsFile file → length file.instances ≡ 0 → is_name name ≡ true → (Contains (names_of file.language) name → ⊥) → 1 ≤ arity → arity ≤ 6 → length file.language.relations < 32 → subset_weight_of file.language.domain file.language.relations + (2 ^ file.language.domain - 1) ^ arity ≤ most_weight → IsFile (record { language = with_relation file.language name (record { domain = file.language.domain; arity = arity; rows = [] }); instances = file.instances })
 IsFile-with_relation file name arity is none named new some few room subsets =
@@ -198,4 +195,4 @@ set-last c inst (next ∷ rest) = ap (λ instances. inst ∷ instances) (set-las
 -- the last instance with the constraint in its place
 pub set-with_constraint : (c : ConstraintView) (instances : List InstanceView) → 0 < length instances → set instances (length instances - 1) (with_constraint (get_or instances (length instances - 1) no_instance) c) ≡ with_constraint_at_last c instances
 set-with_constraint c [] some = absurd (omega arith)
-set-with_constraint c (inst ∷ rest) some = let last : suc (length rest) - 1 ≡ length rest = omega arith in rw last (set-last c inst rest)
+set-with_constraint c (inst ∷ rest) some = rw (last_place (length rest)) (set-last c inst rest)

@@ -1,5 +1,5 @@
 -- The limited sums of a language behind one more entry.
-use Rattle.std.proofs.Common.{◌≡◌, ℕ, suc, ◌+◌, ◌-◌, ◌*◌, ◌^◌, ◌<◌, ◌≤◌, false, List, [], ◌∷◌, length, get_or, Ok, Err, Contains, refl, ap, ◌∙◌, arith}
+use Rattle.std.proofs.Common.{◌≡◌, ℕ, ◌+◌, ◌-◌, ◌*◌, ◌^◌, ◌<◌, ◌≤◌, false, List, [], ◌∷◌, length, get_or, Ok, Err, Contains, refl, ap, ◌∙◌, arith}
 use Rattle.std.proofs.Math.Nat.{pow-le-pow_left, pow-le-pow_right, pow-zero, pow-suc, mul-le-mul_left, mul-le-mul_right}
 use Rattle.std.proofs.lemmas.Bool.{lt-ltb, le-leb, lt-leb}
 use Rattle.pol_defs.specs.Tuples.{IsTuple}
@@ -8,7 +8,7 @@ use Rattle.pol_defs.specs.Files.{weight_of, most_weight}
 use Rattle.pol_defs.specs.Grammar.{with_tuple}
 use Rattle.pol_defs.specs.Refusals.Word.{TripleLimit}
 use Rattle.pol_defs.proofs.RelationLemmas.{Named}
-use Rattle.pol_defs.proofs.FileLemmas.{length-last_rows}
+use Rattle.pol_defs.proofs.FileLemmas.{last_place, length-last_rows}
 
 -- ---- sums
 
@@ -32,7 +32,7 @@ weight_of-longer t e (f ∷ rest) longer = omega (arith, weight_of-longer t f re
 relations-longer : (t : List ℕ) (relations : List Named) → 0 < length relations → (let last = get_or relations (length relations - 1) ([], no_relation) in length (with_row t last.1.rows) ≡ length last.1.rows + 1) → (let last = get_or relations (length relations - 1) ([], no_relation) in weight_of 3 (with_row_at_last t relations) ≡ weight_of 3 relations + 3 * length last.1.rows * (length last.1.rows + 1) + 1)
 relations-longer t [] some longer = absurd (omega arith)
 relations-longer t (e ∷ rest) some longer =
-    let last : suc (length rest) - 1 ≡ length rest = omega arith in
+    let last = last_place (length rest) in
     rw last (weight_of-longer t e rest (rw last at longer))
 
 -- with one row more the sum of cubes grows by the next difference of cubes

@@ -93,13 +93,6 @@ step_fault-take lang inst log i s within =
         let before = All-from_list_all (λ r. ltb r i) (λ r. r < i) (λ r. ltb-true r i) s.references passes in
         ap (λ covers. tested (is_placed lang inst s) true covers (eqb (length s.references) (length (cases_of lang inst s.basis s.nogood)))) (covered-take log i s.nogood (cases_of lang inst s.basis s.nogood) s.references before)
 
--- behind a step without a fault the first fault is that of the rest
-pub fault_from-passed : (lang : LanguageView) (inst : InstanceView) (earlier : List StepView) (s : StepView) (rest : List StepView) → step_fault lang inst earlier s ≡ None → fault_from lang inst earlier (s ∷ rest) ≡ fault_from lang inst (earlier ++ s ∷ []) rest
-fault_from-passed lang inst earlier s rest none = ap (λ found. after_step (length earlier) found (fault_from lang inst (earlier ++ s ∷ []) rest)) none
-
-pub fault_from-found : (lang : LanguageView) (inst : InstanceView) (earlier : List StepView) (s : StepView) (rest : List StepView) (why : Why) → step_fault lang inst earlier s ≡ Some why → fault_from lang inst earlier (s ∷ rest) ≡ Some (record { step = length earlier; why = why })
-fault_from-found lang inst earlier s rest why found = ap (λ found. after_step (length earlier) found (fault_from lang inst (earlier ++ s ∷ []) rest)) found
-
 -- one step on, from the first i steps
 pub fault_from-at : (lang : LanguageView) (inst : InstanceView) (log : List StepView) (i : ℕ) (d : StepView) → i < length log → fault_from lang inst (take i log) (drop i log) ≡ after_step i (step_fault lang inst (take i log) (get_or log i d)) (fault_from lang inst (take (i + 1) log) (drop (i + 1) log))
 fault_from-at lang inst log i d inside =
@@ -118,10 +111,6 @@ past_none lang inst log = refl
 pub past_more : (lang : LanguageView) (inst : InstanceView) (log : List StepView) (i : ℕ) (d : StepView) → i < length log → step_fault lang inst (take i log) (get_or log i d) ≡ None → IsPast lang inst log i → IsPast lang inst log (i + 1)
 past_more lang inst log i d inside none past =
     past ∙ (fault_from-at lang inst log i d inside ∙ ap (λ found. after_step i found (fault_from lang inst (take (i + 1) log) (drop (i + 1) log))) none)
-
-pub past_found : (lang : LanguageView) (inst : InstanceView) (log : List StepView) (i : ℕ) (d : StepView) (why : Why) → i < length log → step_fault lang inst (take i log) (get_or log i d) ≡ Some why → IsPast lang inst log i → log_fault lang inst log ≡ Some (record { step = i; why = why })
-past_found lang inst log i d why inside found past =
-    past ∙ (fault_from-at lang inst log i d inside ∙ ap (λ found. after_step i found (fault_from lang inst (take (i + 1) log) (drop (i + 1) log))) found)
 
 pub past_all : (lang : LanguageView) (inst : InstanceView) (log : List StepView) (i : ℕ) → length log ≤ i → IsPast lang inst log i → log_fault lang inst log ≡ end_fault log
 past_all lang inst log i all past =

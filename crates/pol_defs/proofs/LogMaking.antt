@@ -209,6 +209,3 @@ breaking_log-no_fault lang inst c known empty =
     no_fault-push lang inst [] (constraint_step_of c [] []) (valid_none lang inst)
     (breaking_step lang inst [] c [] known (IsNogood-none (length inst.variables) lang.domain) (subst (λ (rows : List (List ℕ)). All (λ row. is_case scope [] row ≡ false) rows) (sym empty) (All-nil (λ row. is_case scope [] row ≡ false))))
     refl
-
-pub breaking_log-fits : (most c : ℕ) → FitsMost most (breaking_log c)
-breaking_log-fits most c = FitsMost-one most (constraint_step_of c [] []) (omega arith)

@@ -1,16 +1,15 @@
 -- The order of lists: transitive, irreflexive, total at one length, and the answers of `slice_cmp`.
-use Rattle.std.proofs.Common.{◌≡◌, ℕ, suc, ◌<◌, true, inl, inr, List, [], ◌∷◌, length, Ordering, Less, Equal, Greater, All, AllPairs, get_or, refl, sym, ap, ◌∙◌, arith}
+use Rattle.std.proofs.Common.{◌≡◌, ℕ, suc, ◌<◌, inl, inr, List, [], ◌∷◌, length, Less, Equal, Greater, AllPairs, get_or, refl, sym, ◌∙◌, arith}
 use Rattle.std.specs.Bool.{Decides}
 use Rattle.std.specs.Cmp.{nat_cmp_is}
 use Rattle.std.specs.Cmp.Lexicographic.{slice_cmp}
-use Rattle.std.specs.Ordering.{nat_cmp, is_lt, is_eq}
+use Rattle.std.specs.Ordering.{nat_cmp, is_eq}
 use Rattle.std.proofs.lemmas.Bool.{cases_order}
 use Rattle.std.specs.Str.{bytes_eq}
 use Rattle.std.specs.List.Sorted.{IsStrictlySortedBy}
 use Rattle.std.proofs.lemmas.Bool.Decides.{Decides-at}
 use Rattle.std.proofs.lemmas.Slice.Eq.{bytes_eq-Decides}
 use Rattle.std.proofs.lemmas.Map.Text.{is_eq-slice_cmp}
-use Rattle.std.proofs.lemmas.Map.Keys.{Less-from_sorted}
 use Rattle.std.proofs.lemmas.List.Elements.{recursion_from_All}
 use Rattle.pol_defs.specs.Tuples.{IsBefore}
 
@@ -30,9 +29,6 @@ IsBefore-trans (x ∷ xs) (y ∷ ys) (z ∷ zs) first second =
 pub IsBefore-irrefl : (xs : List ℕ) → IsBefore xs xs → ⊥
 IsBefore-irrefl [] before = before
 IsBefore-irrefl (x ∷ xs) before = elim before [ inl less ↦ omega arith | inr equal ↦ IsBefore-irrefl xs equal.1 ]
-
-pub IsBefore-asym : (xs ys : List ℕ) → IsBefore xs ys → IsBefore ys xs → ⊥
-IsBefore-asym xs ys first second = IsBefore-irrefl xs (IsBefore-trans xs ys xs first second)
 
 -- one list comes before the other, or they are one
 pub data Order (xs ys : List ℕ) : Type 0 where
@@ -110,21 +106,8 @@ after-slice_cmp xs ys long more =
       | After after ↦ after
     ]
 
-less_from_test : (answer : Ordering) → is_lt answer ≡ true → answer ≡ Less
-less_from_test Less test = refl
-less_from_test Equal test = absurd (cc)
-less_from_test Greater test = absurd (cc)
-
-pub is_lt-decides : (xs ys : List ℕ) → length xs ≡ length ys → Decides (is_lt (slice_cmp nat_cmp xs ys)) (IsBefore xs ys)
-is_lt-decides xs ys long = (λ test. before-slice_cmp xs ys long (less_from_test (slice_cmp nat_cmp xs ys) test), λ before. ap is_lt (slice_cmp-before xs ys before))
-
 pub is_eq-decides : (xs ys : List ℕ) → Decides (is_eq (slice_cmp nat_cmp xs ys)) (xs ≡ ys)
 is_eq-decides xs ys = Decides-at (is_eq (slice_cmp nat_cmp xs ys)) (bytes_eq xs ys) (is_eq-slice_cmp xs ys) (bytes_eq-Decides xs ys)
-
--- strictly sorted lists of one length ascend
-pub ascending_from_sorted : (n : ℕ) (rows : List (List ℕ)) → All (λ row. length row ≡ n) rows → IsStrictlySortedBy (slice_cmp nat_cmp) rows → AllPairs IsBefore rows
-ascending_from_sorted n rows long sorted = λ i j d less inside.
-    before-slice_cmp (get_or rows i d) (get_or rows j d) (long i d (omega arith) ∙ sym (long j d inside)) (Less-from_sorted (slice_cmp nat_cmp) rows i j d sorted less inside)
 
 pub sorted_from_ascending : (rows : List (List ℕ)) → AllPairs IsBefore rows → IsStrictlySortedBy (slice_cmp nat_cmp) rows
 unfolding IsStrictlySortedBy

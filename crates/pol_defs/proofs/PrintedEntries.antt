@@ -17,11 +17,6 @@ use Rattle.pol_defs.proofs.PrintedFiles.{tuple_tokens, constraint_line_tokens}
 
 -- ---- lists
 
-All-at : {X : Type 0} (P : X → Type 0) (done rest : List X) (x : X) → All P (done ++ x ∷ rest) → P x
-All-at P done rest x all =
-    let inside : length done < length (done ++ x ∷ rest) = omega (arith, length-append done (x ∷ rest)) in
-    subst P (get_or_at done x rest x (length done) refl) (all (length done) x inside)
-
 -- what stands before is related to what stands behind
 pub AllPairs-before : {X : Type 0} (R : X → X → Type 0) (done rest : List X) (x : X) → AllPairs R (done ++ x ∷ rest) → All (λ y. R y x) done
 AllPairs-before R done rest x pairs = λ k fallback within.

@@ -213,10 +213,6 @@ entry_lines-read file is =
 
 -- ---- the whole text
 
--- the file, and where its canonical text ends
-abbrev pub printed_file : FileView → Parsed
-printed_file file = record { file = file; place = length (file_text file); line = length (lines_of (file_text file)) + 1 }
-
 read_front : (last d : ℕ) (l m : LineView) (ls : List LineView) → header_line l.tokens ≡ Ok 1 → domain_line m.tokens ≡ Ok d → file_of last (l ∷ m ∷ ls) ≡ rest_of_file (begun_file d) last ls
 read_front last d l m ls header domain = rw (header, domain) refl
 

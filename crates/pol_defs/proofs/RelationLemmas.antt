@@ -1,5 +1,5 @@
 -- Rows and relations: what `with_row` keeps and adds, how many rows there can be, and what a language keeps.
-use Rattle.std.proofs.Common.{◌≡◌, ◌≢◌, ℕ, zero, suc, ◌+◌, ◌-◌, ◌^◌, ◌<◌, ◌≤◌, ◌⊎◌, inl, inr, List, [], ◌∷◌, ◌++◌, length, map, get_or, Ordering, Result, Ok, Err, Less, Equal, Greater, All, AllPairs, Contains, refl, sym, ap, ◌∙◌, subst, arith}
+use Rattle.std.proofs.Common.{◌≡◌, ◌≢◌, ℕ, zero, suc, ◌+◌, ◌-◌, ◌^◌, ◌<◌, ◌≤◌, ◌⊎◌, inl, inr, List, [], ◌∷◌, length, map, get_or, Ordering, Result, Ok, Err, Less, Equal, Greater, All, AllPairs, Contains, refl, sym, ap, ◌∙◌, subst, arith}
 use Rattle.std.specs.Bool.{Decides}
 use Rattle.std.specs.Result.{MatchResult}
 use Rattle.std.specs.List.Sorted.{IsSearchInRange, IsBinarySearchResult, IsPartitionPoint, IsNonDecreasingBy}
@@ -10,7 +10,7 @@ use Rattle.std.specs.Ordering.{nat_cmp, is_eq, ordering_index}
 use Rattle.std.proofs.Math.Nat.{pow-le-pow_left, pow-le-pow_right}
 use Rattle.std.proofs.lemmas.Bool.Decides.{Decides-eqb, Decides-by_or}
 use Rattle.std.proofs.lemmas.Slice.Eq.{slice_eq-Decides}
-use Rattle.std.proofs.lemmas.List.{map_push, get_or-map, length-map, length_push, get_or_push, get_or_append_left}
+use Rattle.std.proofs.lemmas.List.{get_or-map, length-map, length_push}
 use Rattle.std.proofs.lemmas.List.Elements.{All-nil, All-cons, All-head, All-tail, All-push, All-weaker, All-contains, Decides-contains, Contains-get_or}
 use Rattle.std.proofs.lemmas.List.Kept.{AllPairs-cons}
 use Rattle.std.proofs.lemmas.List.Quantifiers.{all_pairs_push}
@@ -315,9 +315,6 @@ distinct_relations relations distinct = λ i j d less inside same.
     distinct i j d.0 less (omega (arith, length-map relations (λ e. e.0)))
     (get_or-map (λ e. e.0) relations i d d.0 i_inside ∙ (same ∙ sym (get_or-map (λ e. e.0) relations j d d.0 inside)))
 
-pub names_of-with_last_row : (lang : LanguageView) (t : List ℕ) → names_of (with_last_row lang t) ≡ names_of lang
-names_of-with_last_row lang t = names-with_row_at_last t lang.relations
-
 pub length-with_last_row : (lang : LanguageView) (t : List ℕ) → length (with_last_row lang t).relations ≡ length lang.relations
 length-with_last_row lang t = length-with_row_at_last t lang.relations
 
@@ -326,14 +323,6 @@ last_relation t [] d some = absurd (omega arith)
 last_relation t (e ∷ rest) d some =
     let last : suc (length rest) - 1 ≡ length rest = omega arith in
     rw last (get_or-with_row_at_last t e rest d)
-
--- the last relation is the old one with the row
-pub relation_of-with_last_row : (lang : LanguageView) (t : List ℕ) → 0 < length lang.relations → relation_of (with_last_row lang t) (length lang.relations - 1) ≡ relation_with_row (relation_of lang (length lang.relations - 1)) t
-relation_of-with_last_row lang t some = ap (λ e. e.1) (last_relation t lang.relations ([], no_relation) some)
-
--- the other relations stay
-pub relation_of-with_last_row_other : (lang : LanguageView) (t : List ℕ) (r : ℕ) → r + 1 < length lang.relations → relation_of (with_last_row lang t) r ≡ relation_of lang r
-relation_of-with_last_row_other lang t r before = ap (λ e. e.1) (get_or-with_row_at_last_other t lang.relations r ([], no_relation) before)
 
 relations_kept : (d : ℕ) (t : List ℕ) (relations : List Named) → All (λ f. IsRelationOver d f.1) relations → (let last = get_or relations (length relations - 1) ([], no_relation) in IsTuple last.1.domain last.1.arity t) → All (λ f. IsRelationOver d f.1) (with_row_at_last t relations)
 relations_kept d t [] all tuple = all
@@ -347,9 +336,6 @@ IsLanguage-with_last_row lang t is tuple = record {
   relations_are = relations_kept lang.domain t lang.relations is.relations_are tuple;
   distinct = distinct_relations (with_row_at_last t lang.relations) (subst (λ names. AllPairs (λ a b. a ≢ b) names) (sym (names-with_row_at_last t lang.relations)) (distinct_names lang.relations is.distinct));
 }
-
-pub names_of-with_relation : (lang : LanguageView) (name : List ℕ) (r : RelationView) → names_of (with_relation lang name r) ≡ names_of lang ++ name ∷ []
-names_of-with_relation lang name r = map_push (λ e. e.0) lang.relations (name, r)
 
 pub length-with_relation : (lang : LanguageView) (name : List ℕ) (r : RelationView) → length (with_relation lang name r).relations ≡ length lang.relations + 1
 length-with_relation lang name r = length_push lang.relations (name, r)
@@ -378,11 +364,3 @@ IsLanguage-begun d domain = record { domain_is = domain; relations_are = All-nil
 
 pub IsRelationOver-relation_of : (lang : LanguageView) (r : ℕ) → IsLanguage lang → r < length lang.relations → IsRelationOver lang.domain (relation_of lang r)
 IsRelationOver-relation_of lang r is inside = is.relations_are r ([], no_relation) inside
-
--- the further relation is the last
-pub relation_of-with_relation : (lang : LanguageView) (name : List ℕ) (r : RelationView) → relation_of (with_relation lang name r) (length lang.relations) ≡ r
-relation_of-with_relation lang name r = ap (λ e. e.1) (get_or_push lang.relations (name, r) ([], no_relation) (length lang.relations) refl)
-
--- the other relations stay
-pub relation_of-with_relation_other : (lang : LanguageView) (name : List ℕ) (r : RelationView) (i : ℕ) → i < length lang.relations → relation_of (with_relation lang name r) i ≡ relation_of lang i
-relation_of-with_relation_other lang name r i inside = ap (λ e. e.1) (get_or_append_left lang.relations ((name, r) ∷ []) ([], no_relation) i inside)

@@ -1,5 +1,5 @@
 -- Texts that are appended part by part, and what stands where a part was not appended whole.
-use Rattle.std.proofs.Common.{◌≡◌, ℕ, zero, suc, ◌+◌, ◌<◌, ◌≤◌, List, [], ◌∷◌, ◌++◌, length, take, drop, get_or, Result, Ok, Err, refl, ap, sym, ◌∙◌, arith, codes, decimal, add-one, take_all, append_assoc, append-nil}
+use Rattle.std.proofs.Common.{◌≡◌, ℕ, zero, suc, ◌+◌, ◌<◌, List, [], ◌∷◌, ◌++◌, length, take, drop, get_or, Result, Ok, Err, refl, ap, sym, ◌∙◌, arith, codes, decimal, add-one, append_assoc, append-nil}
 use Rattle.std.specs.Prelude.{OnErr}
 use Rattle.pol_defs.specs.Relations.{LanguageView, name_of}
 use Rattle.pol_defs.specs.Instances.{ConstraintView, InstanceView}
@@ -75,10 +75,6 @@ pub joined-grown : {X : Type 0} (item : X → List ℕ) (xs : List X) (i : ℕ) 
 joined-grown item xs i d old mid new inside grown more =
     rw add-one
     (more ∙ (ap (λ bytes. bytes ++ item (get_or xs i d)) grown ∙ (append_assoc old (joined item (take i xs)) (item (get_or xs i d)) ∙ ap (λ bytes. old ++ bytes) (sym (joined-next item xs i d inside)))))
-
--- all items stand behind the old
-pub joined-all : {X : Type 0} (item : X → List ℕ) (xs : List X) (i : ℕ) (old now : List ℕ) → length xs ≤ i → now ≡ old ++ joined item (take i xs) → now ≡ old ++ joined item xs
-joined-all item xs i old now whole grown = grown ∙ ap (λ ys. old ++ joined item ys) (take_all i xs whole)
 
 -- a front of an item stands behind the old
 pub joined-front : {X : Type 0} (item : X → List ℕ) (xs : List X) (i : ℕ) (d : X) (old mid new : List ℕ) → i < length xs → mid ≡ old ++ joined item (take i xs) → GrowsByFront mid new (item (get_or xs i d)) → GrowsByFront old new (joined item xs)

@@ -1,22 +1,13 @@
 -- The values of tokens, read behind a front.
-use Rattle.std.proofs.Common.{◌≡◌, ℕ, List, [], ◌∷◌, ◌++◌, length, Result, Ok, Err, refl, sym, ap, append_assoc}
+use Rattle.std.proofs.Common.{◌≡◌, ℕ, List, ◌++◌, length, Result, Ok, Err}
 use Rattle.pol_defs.specs.Refusals.{Word}
 use Rattle.pol_defs.specs.Tuples.{IsTuple}
-use Rattle.pol_defs.specs.Grammar.{after_values, values_of}
+use Rattle.pol_defs.specs.Grammar.{values_of}
 use Rattle.pol_defs.proofs.AcceptedLines.{values_of-write}
 
 abbrev pub with_front : List ℕ → Result (List ℕ) Word → Result (List ℕ) Word
 with_front front (Ok values) = Ok (front ++ values)
 with_front front (Err word) = Err word
-
--- one value more
-pub with_front-more : (front : List ℕ) (v : ℕ) (read : Result (List ℕ) Word) → with_front front (after_values read (λ vs. Ok (v ∷ vs))) ≡ with_front (front ++ v ∷ []) read
-with_front-more front v (Ok values) = ap (λ xs. Ok xs) (sym (append_assoc front (v ∷ []) values))
-with_front-more front v (Err word) = refl
-
-pub with_front-nil : (read : Result (List ℕ) Word) → with_front [] read ≡ read
-with_front-nil (Ok values) = refl
-with_front-nil (Err word) = refl
 
 -- the values that tokens write are a tuple
 pub values_of-tuple : (d : ℕ) (tokens : List (List ℕ)) (values : List ℕ) → values_of d tokens ≡ Ok values → IsTuple d (length tokens) values

@@ -1,9 +1,9 @@
 -- A checker that walks cases beside references: what is left of both tells what all do.
-use Rattle.std.proofs.Common.{◌≡◌, ℕ, ◌+◌, ◌<◌, ◌≤◌, Bool, true, false, ◌&&◌, List, [], ◌∷◌, ◌++◌, length, drop, get_or, refl, sym, ap, ◌∙◌, subst, arith}
+use Rattle.std.proofs.Common.{◌≡◌, ℕ, ◌+◌, ◌<◌, Bool, true, false, ◌&&◌, List, [], ◌∷◌, ◌++◌, length, drop, get_or, refl, sym, ap, ◌∙◌, subst, arith}
 use Rattle.std.proofs.lemmas.List.{drop-drop}
 use Rattle.pol_defs.specs.Nogoods.{Pair, StepView, contained_in, reading, is_case, value_case, nogood_at, covered}
 use Rattle.pol_defs.specs.ValidLogs.{row_cases, value_cases}
-use Rattle.pol_defs.proofs.LogWalks.{no_references, row_cases-skip, row_cases-next, row_cases-end, values_from, values_from-start, values_from-next, values_from-end}
+use Rattle.pol_defs.proofs.LogWalks.{no_references, row_cases-skip, row_cases-next, values_from, values_from-next}
 
 module _ (earlier : List StepView) (nogood : List Pair) where
   and_true : (b c : Bool) → (b && c) ≡ ((b && true) && c)
@@ -24,9 +24,6 @@ pub record IsWalk (earlier : List StepView) (nogood : List Pair) (references : L
   pub count : k + length left ≡ length all
 
 module _ (earlier : List StepView) (nogood : List Pair) (references : List ℕ) (all : List (List Pair)) where
-  pub walk-start : IsWalk earlier nogood references all all 0
-  walk-start = record { same = refl; count = omega arith }
-
   pub walk-same : (left next : List (List Pair)) (k : ℕ) → left ≡ next → IsWalk earlier nogood references all left k → IsWalk earlier nogood references all next k
   walk-same left next k same walk = subst (λ (cases : List (List Pair)). IsWalk earlier nogood references all cases k) same walk
 
@@ -38,18 +35,6 @@ module _ (earlier : List StepView) (nogood : List Pair) (references : List ℕ) 
         same = sym (more ∙ ap (λ b. b && covered earlier nogood next (drop (k + 1) references)) passes) ∙ walk.same;
         count = omega (arith, walk.count);
       }
-
-  pub walk-fault : (left next : List (List Pair)) (one : List Pair) (k : ℕ) → left ≡ one ∷ next → covered earlier nogood (one ∷ []) (drop k references) ≡ false → IsWalk earlier nogood references all left k → covered earlier nogood all references ≡ false
-  walk-fault left next one k front fails walk =
-      let walk = walk-same left (one ∷ next) k front walk in
-      let more = covered-step earlier nogood one next references k in
-      sym walk.same ∙ (more ∙ ap (λ b. b && covered earlier nogood next (drop (k + 1) references)) fails)
-
-  pub walk-covered : (left : List (List Pair)) (k : ℕ) → left ≡ [] → IsWalk earlier nogood references all left k → covered earlier nogood all references ≡ true
-  walk-covered left k none walk = let walk = walk-same left [] k none walk in sym walk.same
-
-  pub walk-count : (left : List (List Pair)) (k : ℕ) → left ≡ [] → IsWalk earlier nogood references all left k → k ≡ length all
-  walk-count left k none walk = let walk = walk-same left [] k none walk in omega (arith, walk.count)
 
 -- over the rows of a relation
 
@@ -66,17 +51,8 @@ module _ (earlier : List StepView) (nogood : List Pair) (references scope : List
   pub rows-next : (i k : ℕ) (row : List ℕ) → row ≡ get_or rows i [] → i < length rows → is_case scope nogood row ≡ true → covered earlier nogood (reading scope row ∷ []) (drop k references) ≡ true → IsRowWalk i k → IsRowWalk (i + 1) (k + 1)
   rows-next i k row read inside is passes walk = walk-next earlier nogood references (row_cases scope nogood rows) (row_cases scope nogood (drop i rows)) (row_cases scope nogood (drop (i + 1) rows)) (reading scope row) k (front i row read inside is) passes walk
 
-  pub rows-fault : (i k : ℕ) (row : List ℕ) → row ≡ get_or rows i [] → i < length rows → is_case scope nogood row ≡ true → covered earlier nogood (reading scope row ∷ []) (drop k references) ≡ false → IsRowWalk i k → covered earlier nogood (row_cases scope nogood rows) references ≡ false
-  rows-fault i k row read inside is fails walk = walk-fault earlier nogood references (row_cases scope nogood rows) (row_cases scope nogood (drop i rows)) (row_cases scope nogood (drop (i + 1) rows)) (reading scope row) k (front i row read inside is) fails walk
-
   pub rows-skip : (i k : ℕ) (row : List ℕ) → row ≡ get_or rows i [] → i < length rows → is_case scope nogood row ≡ false → IsRowWalk i k → IsRowWalk (i + 1) k
   rows-skip i k row read inside excluded walk = walk-same earlier nogood references (row_cases scope nogood rows) (row_cases scope nogood (drop i rows)) (row_cases scope nogood (drop (i + 1) rows)) k (row_cases-skip scope nogood rows i [] inside (case_at i row false read excluded)) walk
-
-  pub rows-covered : (i k : ℕ) → length rows ≤ i → IsRowWalk i k → covered earlier nogood (row_cases scope nogood rows) references ≡ true
-  rows-covered i k ended walk = walk-covered earlier nogood references (row_cases scope nogood rows) (row_cases scope nogood (drop i rows)) k (row_cases-end scope nogood rows i ended) walk
-
-  pub rows-count : (i k : ℕ) → length rows ≤ i → IsRowWalk i k → k ≡ length (row_cases scope nogood rows)
-  rows-count i k ended walk = walk-count earlier nogood references (row_cases scope nogood rows) (row_cases scope nogood (drop i rows)) k (row_cases-end scope nogood rows i ended) walk
 
 -- over the values of a variable
 
@@ -84,14 +60,5 @@ module _ (earlier : List StepView) (nogood : List Pair) (references : List ℕ) 
   abbrev pub IsValueWalk : ℕ → Type 0
   IsValueWalk a = IsWalk earlier nogood references (value_cases v d) (values_from v d a) a
 
-  pub values-start : IsValueWalk 0
-  values-start = walk-same earlier nogood references (value_cases v d) (value_cases v d) (values_from v d 0) 0 (sym (values_from-start v d)) (walk-start earlier nogood references (value_cases v d))
-
   pub values-next : (a k : ℕ) → k ≡ a → a < d → covered earlier nogood (value_case v a ∷ []) (drop k references) ≡ true → IsValueWalk a → IsValueWalk (a + 1)
   values-next a k same less passes walk = walk-next earlier nogood references (value_cases v d) (values_from v d a) (values_from v d (a + 1)) (value_case v a) a (values_from-next v d a less) (subst (λ (n : ℕ). covered earlier nogood (value_case v a ∷ []) (drop n references) ≡ true) same passes) walk
-
-  pub values-fault : (a k : ℕ) → k ≡ a → a < d → covered earlier nogood (value_case v a ∷ []) (drop k references) ≡ false → IsValueWalk a → covered earlier nogood (value_cases v d) references ≡ false
-  values-fault a k same less fails walk = walk-fault earlier nogood references (value_cases v d) (values_from v d a) (values_from v d (a + 1)) (value_case v a) a (values_from-next v d a less) (subst (λ (n : ℕ). covered earlier nogood (value_case v a ∷ []) (drop n references) ≡ false) same fails) walk
-
-  pub values-covered : (a : ℕ) → d ≤ a → IsValueWalk a → covered earlier nogood (value_cases v d) references ≡ true
-  values-covered a ended walk = walk-covered earlier nogood references (value_cases v d) (values_from v d a) a (values_from-end v d a ended) walk
