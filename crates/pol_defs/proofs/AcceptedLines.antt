@@ -15,7 +15,8 @@ use Rattle.pol_defs.specs.Refusals.Word.{NoHeader, BadVersion, BadDomain, BadLin
 use Rattle.pol_defs.specs.Files.{weight_of, subset_weight_of, most_weight, FileView, last_instance, with_instance, with_last_constraint}
 use Rattle.pol_defs.specs.Grammar.{unless, after_number, after_values, begins_with, header_line, domain_line, begun_relation, relation_line, values_of, with_tuple, tuple_line, instance_names, names_of_tokens, after_names, instance_line, scope_of, with_scope, constraint_line, in_language, end_line}
 use Rattle.pol_defs.specs.Spelling.{Write, constraint_tokens}
-use Rattle.pol_defs.proofs.RelationLemmas.{AllPairs-nil, AreLong, AreLong-tuples, is_same-decides, has_row-decides, length-with_row_new, with_row-there}
+use Rattle.pol_defs.proofs.MemberLemmas.{AllPairs-nil}
+use Rattle.pol_defs.proofs.RelationLemmas.{AreLong, AreLong-tuples, is_same-decides, has_row-decides, length-with_row_new, with_row-there}
 use Rattle.pol_defs.proofs.NameLemmas.{absent_name, place_in-found, place_in-known, place_in-name_of}
 
 -- a test that was passed

@@ -9,7 +9,7 @@ use Rattle.pol_defs.specs.Tuples.{IsTuple, IsBefore, cell_of}
 use Rattle.pol_defs.specs.Relations.{RelationView, IsRelation, LanguageView, IsLanguage}
 use Rattle.pol_defs.specs.Operations.{Operation, IsOperation, value_at, image, Preserves}
 use Rattle.pol_defs.specs.Classes.{IsConstant, IsTable, ConstantLine, HoldsConstant, ClosedUnder}
-use Rattle.pol_defs.proofs.RelationLemmas.{Contains-nil}
+use Rattle.pol_defs.proofs.MemberLemmas.{Contains-nil}
 
 -- the operation of one argument with these cells
 abbrev pub unary : ℕ → List ℕ → Operation

@@ -8,8 +8,7 @@ use Rattle.pol_defs.specs.Relations.{LanguageView}
 use Rattle.pol_defs.specs.Instances.{InstanceView}
 use Rattle.pol_defs.specs.Nogoods.{Pair, Basis, StepView, FitsMost}
 use Rattle.pol_defs.specs.ValidLogs.{IsPair, IsNogood, AreValid, nogood_count}
-use Rattle.pol_defs.proofs.RelationLemmas.{Contains-here, AllPairs-head, AllPairs-tail}
-use Rattle.pol_defs.proofs.MemberLemmas.{in_map, no_longer}
+use Rattle.pol_defs.proofs.MemberLemmas.{Contains-here, AllPairs-head, AllPairs-tail, in_map, no_longer}
 
 pub some_nogoods : (d n most : ℕ) → 1 ≤ nogood_count d n most
 some_nogoods d zero most = omega arith

@@ -9,7 +9,8 @@ use Rattle.pol_defs.specs.Instances.{ConstraintView, InstanceView, IsScope, Fits
 use Rattle.pol_defs.specs.Lines.{is_name}
 use Rattle.pol_defs.specs.Files.{weight_of, subset_weight_of, most_weight, IsFileLanguage, IsFileInstance, FileView, IsFile, no_instance, last_instance, with_instance, with_constraint_at_last, with_last_constraint}
 use Rattle.pol_defs.specs.Grammar.{instance_names, names_of_tokens}
-use Rattle.pol_defs.proofs.RelationLemmas.{Named, AllPairs-nil, AreLong-tuples, relation_with_row, length-with_row_new, length-with_relation, length-with_last_row, IsRelation-begun, IsRelationOver-relation_of, IsLanguage-begun, IsLanguage-with_relation, IsLanguage-with_last_row}
+use Rattle.pol_defs.proofs.MemberLemmas.{AllPairs-nil}
+use Rattle.pol_defs.proofs.RelationLemmas.{Named, AreLong-tuples, relation_with_row, length-with_row_new, length-with_relation, length-with_last_row, IsRelation-begun, IsRelationOver-relation_of, IsLanguage-begun, IsLanguage-with_relation, IsLanguage-with_last_row}
 use Rattle.pol_defs.proofs.AcceptedLines.{names_of_tokens-names}
 
 -- ---- the sums

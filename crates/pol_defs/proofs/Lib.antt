@@ -1,5 +1,6 @@
 pub mod CellLemmas
 pub mod OrderLemmas
+pub mod MemberLemmas
 pub mod RelationLemmas
 pub mod ConstantLemmas
 pub mod LineLemmas
@@ -12,7 +13,6 @@ pub mod ReportLemmas
 pub mod LogExamples
 pub mod RefusedTexts
 pub mod LogLemmas
-pub mod MemberLemmas
 pub mod LogFaults
 pub mod LogCases
 pub mod LogWalks

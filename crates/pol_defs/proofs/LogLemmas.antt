@@ -9,7 +9,7 @@ use Rattle.std.proofs.lemmas.List.Sums.{AllPass-from_list_all, list_all-from_All
 use Rattle.pol_defs.specs.Instances.{InstanceView}
 use Rattle.pol_defs.specs.Nogoods.{Pair, Basis, StepView, same_pair, contained_in, basis_placed, pairs_placed, ascending_pairs, nogood_at, covered}
 use Rattle.pol_defs.specs.ValidLogs.{PairsWithin, IsPair, CanRestOn}
-use Rattle.pol_defs.proofs.RelationLemmas.{AllPairs-nil, AllPairs-head, AllPairs-tail}
+use Rattle.pol_defs.proofs.MemberLemmas.{AllPairs-nil, AllPairs-head, AllPairs-tail}
 
 pub same_pair-true : (p q : Pair) → same_pair p q ≡ true → p ≡ q
 same_pair-true p q same =

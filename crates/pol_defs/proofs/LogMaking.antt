@@ -10,7 +10,7 @@ use Rattle.pol_defs.specs.Relations.{LanguageView, rows_of}
 use Rattle.pol_defs.specs.Instances.{InstanceView, constraint_of}
 use Rattle.pol_defs.specs.Nogoods.{Pair, StepView, reading, is_case, value_case, nogood_at, log_fault, FitsMost}
 use Rattle.pol_defs.specs.ValidLogs.{no_step, constraint_step_of, variable_step_of, breaking_log, PairsWithin, IsPair, IsNogood, row_cases, value_cases, cases_at, HasReferences, IsValidStep, AreValid}
-use Rattle.pol_defs.proofs.RelationLemmas.{AllPairs-nil}
+use Rattle.pol_defs.proofs.MemberLemmas.{AllPairs-nil}
 use Rattle.pol_defs.proofs.LogCases.{pair_at, reading_place}
 use Rattle.pol_defs.proofs.LogFaults.{fault_from_valid}
 

@@ -1,9 +1,39 @@
--- Members of mapped and filtered lists, and lists without repeats.
+-- Members of a list, also of mapped and filtered ones, and lists without repeats.
 use Rattle.std.proofs.Common.{◌≡◌, ◌≢◌, ℕ, zero, suc, ◌<◌, ◌≤◌, ◌⊎◌, inl, inr, Bool, true, false, List, [], ◌∷◌, length, map, filter, get_or, All, AllPairs, Contains, refl, sym, ap, ◌∙◌, subst, arith}
 use Rattle.std.proofs.lemmas.Bool.{cases_Bool, cond-true, cond-false, true≢false}
 use Rattle.std.proofs.lemmas.List.{length-map, get_or-map}
 use Rattle.std.proofs.lemmas.List.Elements.{All-head, All-tail}
-use Rattle.pol_defs.proofs.RelationLemmas.{Contains-here, Contains-there, Contains-cons_cases, Contains-nil, AllPairs-head, AllPairs-tail}
+
+-- ---- members of a list with a first element
+
+pub Contains-here : {X : Type 0} (x : X) (xs : List X) → Contains (x ∷ xs) x
+Contains-here x xs = (0, omega arith, refl)
+
+pub Contains-there : {X : Type 0} (y x : X) (xs : List X) → Contains xs x → Contains (y ∷ xs) x
+Contains-there y x xs inside = (suc inside.0, omega arith, inside.2)
+
+member_at : {X : Type 0} (y x : X) (xs : List X) (k : ℕ) → k < suc (length xs) → get_or (y ∷ xs) k x ≡ x → (y ≡ x) ⊎ Contains xs x
+member_at y x xs zero within found = inl found
+member_at y x xs (suc k) within found = inr (k, omega arith, found)
+
+pub Contains-cons_cases : {X : Type 0} (y x : X) (xs : List X) → Contains (y ∷ xs) x → (y ≡ x) ⊎ Contains xs x
+Contains-cons_cases y x xs inside = member_at y x xs inside.0 inside.1 inside.2
+
+pub Contains-nil : {X : Type 0} (x : X) → Contains [] x → ⊥
+Contains-nil x inside = omega arith
+
+-- ---- what holds of each two elements
+
+pub AllPairs-nil : {X : Type 0} (R : X → X → Type 0) → AllPairs R []
+AllPairs-nil R = λ i j d less inside. absurd (omega arith)
+
+pub AllPairs-head : {X : Type 0} (R : X → X → Type 0) (x : X) (xs : List X) → AllPairs R (x ∷ xs) → All (R x) xs
+AllPairs-head R x xs pairs = λ k d inside. pairs 0 (suc k) d (omega arith) (omega arith)
+
+pub AllPairs-tail : {X : Type 0} (R : X → X → Type 0) (x : X) (xs : List X) → AllPairs R (x ∷ xs) → AllPairs R xs
+AllPairs-tail R x xs pairs = λ i j d less inside. pairs (suc i) (suc j) d (omega arith) (omega arith)
+
+-- ---- mapped and filtered lists
 
 pub in_map : {X Y : Type 0} (f : X → Y) (xs : List X) (x : X) → Contains xs x → Contains (map f xs) (f x)
 in_map f xs x inside =
@@ -18,6 +48,8 @@ in_filter {X = X} test (y ∷ xs) x inside passes = by (cases_Bool (test y)) (Co
     by (inl kept) (inr there) behind = subst (λ (some : List X). Contains some x) (sym (cond-true (test y) (y ∷ filter test xs) (filter test xs) kept)) (Contains-there y x (filter test xs) (behind there))
     by (inr left) (inl same) behind = absurd (true≢false (sym passes ∙ (sym (ap test same) ∙ left)))
     by (inr left) (inr there) behind = subst (λ (some : List X). Contains some x) (sym (cond-false (test y) (y ∷ filter test xs) (filter test xs) left)) (behind there)
+
+-- ---- lists without repeats
 
 -- a list without the first place of a member
 abbrev without : {X : Type 0} → List X → ℕ → List X

@@ -8,7 +8,8 @@ use Rattle.std.proofs.lemmas.List.{get_or-map, get_or_default, length-map}
 use Rattle.pol_defs.specs.Relations.{LanguageView, IsLanguage, no_relation, names_of, name_of, is_same, is_among, place_in}
 use Rattle.pol_defs.specs.Instances.{InstanceView}
 use Rattle.pol_defs.specs.Files.{no_instance}
-use Rattle.pol_defs.proofs.RelationLemmas.{IsPlaceOf, is_same-decides, has_row-decides, AllPairs-tail, Contains-here, Contains-there}
+use Rattle.pol_defs.proofs.MemberLemmas.{AllPairs-tail, Contains-here, Contains-there}
+use Rattle.pol_defs.proofs.RelationLemmas.{IsPlaceOf, is_same-decides, has_row-decides}
 
 -- ---- tests
 

@@ -1,6 +1,6 @@
 -- Each printed line of a file is accepted behind the lines before it, with the entry that it prints.
 use Rattle.std.proofs.Common.{◌≡◌, ◌≢◌, ℕ, suc, ◌+◌, ◌-◌, ◌^◌, ◌<◌, ◌≤◌, true, false, leb, eqb, List, [], ◌∷◌, ◌++◌, length, map, get_or, Some, Ok, All, AllPairs, Contains, refl, ap, sym, ◌∙◌, subst, arith, codes, decimal, append_assoc, length-append}
-use Rattle.std.proofs.lemmas.Bool.{false_from_ne_true, lt-ltb, le-leb, eq-eqb}
+use Rattle.std.proofs.lemmas.Bool.{lt-ltb, le-leb, eq-eqb}
 use Rattle.std.proofs.lemmas.List.{append-nil, get_or_append_left, get_or_at, get_or_push, get_or-map, length-map}
 use Rattle.std.proofs.lemmas.List.Elements.{All-head, All-tail}
 use Rattle.pol_defs.specs.Tuples.{IsTuple, IsBefore}
@@ -10,7 +10,7 @@ use Rattle.pol_defs.specs.Lines.{is_name}
 use Rattle.pol_defs.specs.Files.{FileView, weight_of, subset_weight_of, most_weight, no_instance, last_instance, with_constraint_at_last}
 use Rattle.pol_defs.specs.Grammar.{header_line, domain_line, begun_relation, relation_line, values_of, with_tuple, tuple_line, names_of_tokens, instance_line, scope_of, with_scope, constraint_line}
 use Rattle.pol_defs.proofs.OrderLemmas.{IsBefore-irrefl}
-use Rattle.pol_defs.proofs.RelationLemmas.{Named, has_row-decides, with_row-before}
+use Rattle.pol_defs.proofs.RelationLemmas.{Named, with_row-before}
 use Rattle.pol_defs.proofs.NameLemmas.{AllPairs-map, other_name, place_in-distinct}
 use Rattle.pol_defs.proofs.PrintedLines.{number_of-decimal}
 use Rattle.pol_defs.proofs.PrintedFiles.{tuple_tokens, constraint_line_tokens}
@@ -35,7 +35,7 @@ distinct-new f done rest x distinct = new-among f done x (AllPairs-before (λ y 
 -- ---- names
 
 new-is_among : (before : List (List ℕ)) (t : List ℕ) → All (λ xs. xs ≢ t) before → is_among before t ≡ false
-new-is_among before t other = false_from_ne_true (is_among before t) (λ e. let inside = (has_row-decides before t).0 e in other inside.0 t inside.1 inside.2)
+new-is_among before t other = other_name before t (λ inside. other inside.0 t inside.1 inside.2)
 
 -- distinct names are read as they are
 pub names_of_tokens-distinct : (before names all : List (List ℕ)) → all ≡ before ++ names → All (λ name. is_name name ≡ true) names → AllPairs (λ x y. x ≢ y) all → names_of_tokens before names ≡ Ok all
@@ -87,7 +87,7 @@ with_row-last t (row ∷ front) before =
     with_row-before t row front (All-head (λ u. IsBefore u t) row front before) ∙ ap (λ rows. row ∷ rows) (with_row-last t front (All-tail (λ u. IsBefore u t) row front before))
 
 new-row : (t : List ℕ) (front : List (List ℕ)) → All (λ row. IsBefore row t) front → has_row front t ≡ false
-new-row t front before = false_from_ne_true (has_row front t) (λ e. let inside = (has_row-decides front t).0 e in IsBefore-irrefl t (subst (λ u. IsBefore u t) inside.2 (before inside.0 t inside.1)))
+new-row t front before = other_name front t (λ inside. IsBefore-irrefl t (subst (λ u. IsBefore u t) inside.2 (before inside.0 t inside.1)))
 
 with_row_at_last-push : (t : List ℕ) (done : List Named) (e : Named) → with_row_at_last t (done ++ e ∷ []) ≡ done ++ (e.0, record { domain = e.1.domain; arity = e.1.arity; rows = with_row t e.1.rows }) ∷ []
 with_row_at_last-push t [] e = refl

@@ -17,35 +17,9 @@ use Rattle.std.proofs.lemmas.List.Quantifiers.{all_pairs_push}
 use Rattle.pol_defs.specs.Tuples.{IsDomain, IsTuple, IsBefore, cell_of}
 use Rattle.pol_defs.specs.Relations.{RelationView, IsRelation, LanguageView, IsRelationOver, IsLanguage, no_relation, relation_of, names_of, is_same, has_row, with_row, with_relation, with_row_at_last, with_last_row}
 use Rattle.pol_defs.proofs.CellLemmas.{cell_of-before, cell_of-IsTuple}
+use Rattle.pol_defs.proofs.MemberLemmas.{Contains-here, Contains-there, Contains-cons_cases, Contains-nil, AllPairs-nil, AllPairs-head, AllPairs-tail}
 use Rattle.pol_defs.proofs.OrderLemmas.{order_of, slice_cmp-before, slice_cmp-same, slice_cmp-after, before-slice_cmp, after-slice_cmp, is_eq-decides, IsBefore-trans}
 use Rattle.pol_defs.proofs.OrderLemmas.Order.{Before, Same, After}
-
--- members of a list with a first element
-
-pub Contains-here : {X : Type 0} (x : X) (xs : List X) → Contains (x ∷ xs) x
-Contains-here x xs = (0, omega arith, refl)
-
-pub Contains-there : {X : Type 0} (y x : X) (xs : List X) → Contains xs x → Contains (y ∷ xs) x
-Contains-there y x xs inside = (suc inside.0, omega arith, inside.2)
-
-member_at : {X : Type 0} (y x : X) (xs : List X) (k : ℕ) → k < suc (length xs) → get_or (y ∷ xs) k x ≡ x → (y ≡ x) ⊎ Contains xs x
-member_at y x xs zero within found = inl found
-member_at y x xs (suc k) within found = inr (k, omega arith, found)
-
-pub Contains-cons_cases : {X : Type 0} (y x : X) (xs : List X) → Contains (y ∷ xs) x → (y ≡ x) ⊎ Contains xs x
-Contains-cons_cases y x xs inside = member_at y x xs inside.0 inside.1 inside.2
-
-pub Contains-nil : {X : Type 0} (x : X) → Contains [] x → ⊥
-Contains-nil x inside = omega arith
-
-pub AllPairs-nil : {X : Type 0} (R : X → X → Type 0) → AllPairs R []
-AllPairs-nil R = λ i j d less inside. absurd (omega arith)
-
-pub AllPairs-head : {X : Type 0} (R : X → X → Type 0) (x : X) (xs : List X) → AllPairs R (x ∷ xs) → All (R x) xs
-AllPairs-head R x xs pairs = λ k d inside. pairs 0 (suc k) d (omega arith) (omega arith)
-
-pub AllPairs-tail : {X : Type 0} (R : X → X → Type 0) (x : X) (xs : List X) → AllPairs R (x ∷ xs) → AllPairs R xs
-AllPairs-tail R x xs pairs = λ i j d less inside. pairs (suc i) (suc j) d (omega arith) (omega arith)
 
 -- the tests
 

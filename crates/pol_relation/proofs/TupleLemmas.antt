@@ -5,7 +5,8 @@ use Rattle.std.proofs.lemmas.List.{length-take-le, length-drop}
 use Rattle.std.proofs.lemmas.List.Elements.{All-take, All-drop}
 use Rattle.pol_defs.specs.Tuples.{IsTuple}
 use Rattle.pol_defs.specs.Relations.{RelationView, IsRelation, with_row, tuples_in, SameMembers}
-use Rattle.pol_defs.proofs.RelationLemmas.{AreLong, AreLong-tuples, relation_with_row, IsRelation-with_row, Contains-here, Contains-there, Contains-cons_cases, Contains-nil, Contains-with_row, Contains-with_row_old, with_row-cases}
+use Rattle.pol_defs.proofs.MemberLemmas.{Contains-here, Contains-there, Contains-cons_cases, Contains-nil}
+use Rattle.pol_defs.proofs.RelationLemmas.{AreLong, AreLong-tuples, relation_with_row, IsRelation-with_row, Contains-with_row, Contains-with_row_old, with_row-cases}
 
 -- the rows and the tuples that are left are all the tuples
 pub record AreRead (rows left all : List (List ℕ)) : Type 0 where
