@@ -1,13 +1,14 @@
--- The class that a name of the code stands for.
+-- The words of the classes, as they stand in the texts.
+use Rattle.std.specs.Prelude.{ℕ, List, codes}
 use Rattle.pol_base.specs.declared.class_name.ClassName.{ClassName}
-use Rattle.pol_base.specs.declared.class_name.ClassName.TheVariants as name
-use Rattle.pol_defs.specs.Classes.{Class}
+use Rattle.pol_base.specs.declared.class_name.ClassName.TheVariants.{Constant, Semilattice, SetFunction, Majority, Nu4, Affine, Maltsev}
 
-abbrev pub class_named : ClassName → Class
-class_named name.Constant = Class.Constant
-class_named name.Semilattice = Class.Semilattice
-class_named name.SetFunction = Class.SetFunction
-class_named name.Majority = Class.Majority
-class_named name.Nu4 = Class.NearUnanimity4
-class_named name.Affine = Class.Affine
-class_named name.Maltsev = Class.Maltsev
+-- the word of a class in the texts
+abbrev pub class_word : ClassName → List ℕ
+class_word Constant = codes "constant"
+class_word Semilattice = codes "semilattice"
+class_word SetFunction = codes "set-function"
+class_word Majority = codes "majority"
+class_word Nu4 = codes "nu4"
+class_word Affine = codes "affine"
+class_word Maltsev = codes "maltsev"

@@ -1,6 +1,6 @@
 ghost use Rattle.std.specs.Prelude.{◌≡◌, ◌≢◌, IfSome, IfNone};
-ghost use Rattle.pol_defs.specs.Classes.{Class, class_word};
-ghost use Rattle.pol_base.specs.Names.{class_named};
+ghost use Rattle.pol_base.specs.declared.class_name.ClassName.{ClassName};
+ghost use Rattle.pol_base.specs.Names.{class_word};
 
 /// A class of closure operations. Declared in the order in which classes are tried.
 #[derive(Clone, Copy, Debug, PartialEq, Eq)]
@@ -27,7 +27,7 @@ const ALL: [ClassName; 7] = [
 impl ClassName {
     /// The word of the class in a report.
     pub fn word(self) -> &'static [u8]
-        ensures word { result.now ≡ class_word (class_named self) }
+        ensures word { result.now ≡ class_word self }
     {
         match self {
             ClassName::Constant => b"constant",
@@ -43,8 +43,8 @@ impl ClassName {
 
 /// The class that has the word.
 pub fn class_of(word: &[u8]) -> Option<ClassName>
-    ensures found { IfSome result (λ name. word.now ≡ class_word (class_named name)) }
-    ensures none { IfNone result ((class : Class) → word.now ≢ class_word class) }
+    ensures found { IfSome result (λ name. word.now ≡ class_word name) }
+    ensures none { IfNone result ((class : ClassName) → word.now ≢ class_word class) }
 {
     for name in ALL {
         if name.word() == word {

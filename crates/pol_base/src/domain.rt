@@ -1,5 +1,5 @@
 ghost use Rattle.std.specs.Prelude.{◌≡◌, ℕ, ◌<◌, ◌⊎◌, ◌↔◌, IsNone, IfSome};
-ghost use Rattle.pol_defs.specs.Tuples.{IsDomain};
+ghost use Rattle.pol_base.specs.Tuples.{IsDomain};
 
 use std::marker::Model;
 

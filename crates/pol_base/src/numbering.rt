@@ -1,5 +1,5 @@
 ghost use Rattle.std.specs.Prelude.{◌≡◌, ℕ, ◌<◌, ◌≤◌, ◌^◌, ◌↔◌, length, All, IsNone, IfSome, slice_index};
-ghost use Rattle.pol_defs.specs.Tuples.{IsDomain, IsTuple, cell_of, digits_of};
+ghost use Rattle.pol_base.specs.Tuples.{IsDomain, IsTuple, cell_of, digits_of};
 ghost use Rattle.pol_base.specs.Laws.{DigitsWriteTheCell, CellHasTheDigits};
 
 use crate::Domain;

@@ -1,5 +1,9 @@
-pub mod WordLemmas
-pub mod AnswerLemmas
-pub mod RunLemmas
 pub mod PrintLemmas
-pub mod ItemLemmas
+pub mod WordLemmas
+pub mod DueLemmas
+pub mod RunLemmas
+pub mod ConstantSolutions
+pub mod ReportLemmas
+pub mod ReportLaws
+pub mod DueLaws
+pub mod StatusLaws

@@ -1,16 +1,14 @@
 -- What stands written when a run ends, and what that has to do with the text that was to be written.
-use Rattle.std.proofs.Common.{◌≡◌, ℕ, List, [], Option, Some, None, IfSome, refl, sym, ap, ◌∙◌, subst}
+use Rattle.std.proofs.Common.{◌≡◌, ℕ, List, [], Option, Some, None, refl, sym, ◌∙◌, subst}
 use Rattle.std.proofs.KnownBytes.{Appends-nil}
 use Rattle.pol_outside.specs.Faults.{Rose}
-use Rattle.pol_defs.specs.Due.{Ending, AsksReport, AreKnown, usage_line}
-use Rattle.pol_defs.specs.Due.IsDue.{usage}
-use Rattle.pol_defs.specs.Due.IsFront.{nothing, due}
+use Rattle.pol_cli.specs.Due.{AsksReport, AreKnown, report_words, usage_line}
+use Rattle.pol_cli.specs.Due.IsDue.{usage}
+use Rattle.pol_cli.specs.Due.IsFront.{nothing, due}
 use Rattle.pol_cli.specs.declared.ended.Ended.{Ended}
 use Rattle.pol_cli.specs.declared.ended.Ended.TheVariants as ended
-use Rattle.pol_cli.specs.Endings.{ending_of}
-use Rattle.pol_cli.specs.Runs.{Told, WritesDue, WritesFront}
-use Rattle.pol_cli.specs.DueAnswers.{report_words, IsAnswerFor, Writes}
-use Rattle.pol_cli.specs.DueAnswers.Writes.{whole, cut_off}
+use Rattle.pol_cli.specs.Runs.{Told, IsAnswer, IsDueFor, WritesDue, WritesFront, Writes}
+use Rattle.pol_cli.specs.Runs.Writes.{whole, cut_off}
 
 -- some bytes, which are those that are told
 told_bytes : Option (List ℕ) → List ℕ
@@ -22,18 +20,14 @@ unfolding told_bytes
 told_bytes-told None = tt
 told_bytes-told (Some left) = refl
 
--- an answer where a report is asked for is one at the words that ask for it
-pub IsAnswerFor-asked : (words : List (List ℕ)) (left : Option (List ℕ)) (made shown : List ℕ) (ended : Ended) → AsksReport words → shown ≡ made → IsAnswerFor report_words left made ended → IsAnswerFor words left shown ended
-IsAnswerFor-asked words left made shown ended asks same answer =
-    subst (λ some. IsAnswerFor some left shown ended) (sym asks) (subst (λ text. IsAnswerFor report_words left text ended) (sym same) answer)
+-- what is due where a report is asked for is due at the words that ask for it
+pub due-asked : (words : List (List ℕ)) (left : Option (List ℕ)) (made shown : List ℕ) (ending : Ended) → AsksReport words → shown ≡ made → IsDueFor report_words left made ending → IsDueFor words left shown ending
+due-asked words left made shown ending asks same is =
+    subst (λ some. IsDueFor some left shown ending) (sym asks) (subst (λ text. IsDueFor report_words left text ending) (sym same) is)
 
--- unknown words are answered by the usage line, whatever the input
-pub IsAnswerFor-usage : (words : List (List ℕ)) (left : Option (List ℕ)) → ¬ AreKnown words → IsAnswerFor words left usage_line ended.Usage
-IsAnswerFor-usage words left unknown = record {
-  bytes = told_bytes left;
-  told = told_bytes-told left;
-  answer = record { ending = Ending.Usage; ending_is = refl; due = usage unknown refl refl };
-}
+-- for unknown words the usage line is due, whatever the input
+pub due-usage : (words : List (List ℕ)) (left : Option (List ℕ)) → ¬ AreKnown words → IsDueFor words left usage_line ended.Usage
+due-usage words left unknown = record { bytes = told_bytes left; told = told_bytes-told left; due = usage unknown refl refl }
 
 -- a sink to which nothing was written holds a front
 pub WritesFront-nothing : (words : List (List ℕ)) (left held : Option (List ℕ)) → WritesFront words left held held
@@ -45,26 +39,31 @@ WritesFront-nothing words left held = record {
   appended = Appends-nil held;
 }
 
--- where the run ends with an answer, that is due
-pub due_from_writes : (words : List (List ℕ)) (left old new : Option (List ℕ)) (text : List ℕ) (wanted result : Ended) (before after : ℕ) → IsAnswerFor words left text wanted → Writes wanted result text old new before after → IfSome (ending_of result) (WritesDue words left old new)
-due_from_writes words left old new text wanted result before after input (whole same appended) =
-    subst (λ ended. IfSome (ending_of ended) (WritesDue words left old new)) (sym same)
-    (subst (λ ending. IfSome ending (WritesDue words left old new)) (sym input.answer.ending_is) (record { bytes = input.bytes; text = text; told = input.told; due = input.answer.due; appended = appended }))
-due_from_writes words left old new text wanted result before after input (cut_off same rose appended) =
-    subst (λ ended. IfSome (ending_of ended) (WritesDue words left old new)) (sym same) tt
+-- a run whose text was written whole has written what is due
+pub writes-due : (words : List (List ℕ)) (left old new : Option (List ℕ)) (text : List ℕ) (wanted result : Ended) (before after : ℕ) → IsDueFor words left text wanted → Writes wanted result text old new before after → IsAnswer result → WritesDue words left old new result
+writes-due words left old new text wanted result before after is (whole same appended calm) answer =
+    subst (WritesDue words left old new) (sym same) (record { text = text; is_due = is; appended = appended })
+writes-due words left old new text wanted result before after is (cut_off same front rose) answer =
+    absurd (subst IsAnswer same answer)
 
--- where the run ends with a write fault, the sink failed and holds a front
-pub fault_from_writes : (words : List (List ℕ)) (left old new : Option (List ℕ)) (text : List ℕ) (wanted result : Ended) (before after : ℕ) → IsAnswerFor words left text wanted → Writes wanted result text old new before after → result ≡ ended.WriteFault → Rose before after × WritesFront words left old new
-fault_from_writes words left old new text wanted result before after input (whole same appended) fault =
-    let none : ending_of wanted ≡ None = ap ending_of (sym same ∙ fault) in
-    absurd (cc (none, input.answer.ending_is))
-fault_from_writes words left old new text wanted result before after input (cut_off same rose (front, rest, split, appended)) fault = (
-  rose,
-  record {
-    bytes = input.bytes;
-    front = front;
-    told = input.told;
-    is_front = due text rest input.answer.ending input.answer.due split;
-    appended = appended;
-  },
-)
+-- a run that was cut off has written a front
+pub writes-front : (words : List (List ℕ)) (left old new : Option (List ℕ)) (text : List ℕ) (wanted result : Ended) (before after : ℕ) → IsDueFor words left text wanted → IsAnswer wanted → Writes wanted result text old new before after → result ≡ ended.WriteFault → WritesFront words left old new
+writes-front words left old new text wanted result before after is answer (whole same appended calm) fault =
+    absurd (subst IsAnswer (sym same ∙ fault) answer)
+writes-front words left old new text wanted result before after is answer (cut_off same (front, rest, split, appended) rose) fault = record {
+  bytes = is.bytes;
+  front = front;
+  told = is.told;
+  is_front = due text rest wanted is.due split;
+  appended = appended;
+}
+
+-- the sink failed where the run was cut off
+pub writes-rose : (wanted result : Ended) (text : List ℕ) (old new : Option (List ℕ)) (before after : ℕ) → IsAnswer wanted → Writes wanted result text old new before after → result ≡ ended.WriteFault → Rose before after
+writes-rose wanted result text old new before after answer (whole same appended calm) fault = absurd (subst IsAnswer (sym same ∙ fault) answer)
+writes-rose wanted result text old new before after answer (cut_off same front rose) fault = rose
+
+-- and nowhere else
+pub writes-calm : (wanted result : Ended) (text : List ℕ) (old new : Option (List ℕ)) (before after : ℕ) → Writes wanted result text old new before after → ¬ (result ≡ ended.WriteFault) → after ≡ before
+writes-calm wanted result text old new before after (whole same appended calm) other = calm
+writes-calm wanted result text old new before after (cut_off same front rose) other = absurd (other same)

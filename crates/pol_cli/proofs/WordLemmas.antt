@@ -1,8 +1,8 @@
 -- When the words of a command line ask for a report.
 use Rattle.std.proofs.Common.{◌≡◌, ◌↔◌, List, [], ◌∷◌, length, get_or, String, string_bytes, IsTrue, ap, ◌∙◌, arith, codes}
-use Rattle.pol_defs.specs.Relations.{is_same}
-use Rattle.pol_defs.specs.Due.{AsksReport}
-use Rattle.pol_defs.proofs.RelationLemmas.{is_same-decides}
+use Rattle.pol_cli.specs.Due.{AsksReport}
+use Rattle.pol_base.specs.Lists.{is_same}
+use Rattle.pol_base.proofs.LookupLemmas.{is_same-decides}
 use Rattle.pol_cli.specs.Runs.{texts_of}
 
 texts_of-one : {A : Type 0} (words : List (String A)) (word : String A) → length words ≡ 1 → word ≡ get_or words 0 word → texts_of words ≡ string_bytes word ∷ []

@@ -1,11 +1,65 @@
--- What the items of a report add to it.
-use Rattle.std.specs.Prelude.{◌≡◌, ℕ, List, ◌++◌}
-use Rattle.pol_defs.specs.Relations.{LanguageView}
-use Rattle.pol_defs.specs.Instances.{InstanceView}
-use Rattle.pol_defs.specs.Reports.{IsInstanceItem}
+-- The texts of the items of a report: lines of tokens with one space between them.
+use Rattle.std.specs.Prelude.{ℕ, List, [], ◌∷◌, ◌++◌, length, map, flat_map, Some, None, codes, decimal}
+use Rattle.pol_base.specs.declared.class_name.ClassName.{ClassName}
+use Rattle.pol_base.specs.Names.{class_word}
+use Rattle.pol_text.specs.Texts.{joined, printed_line}
+use Rattle.pol_nogood.specs.Nogoods.{Pair}
+use Rattle.pol_nogood.specs.Logs.{Basis, StepView}
+use Rattle.pol_optable.specs.ClassLines.{Line}
+use Rattle.pol_optable.specs.ClassLines.Line.{Beyond, Sought}
 
--- new is old and a right item of the instance behind it
-pub record AppendsItem (lang : LanguageView) (inst : InstanceView) (old new : List ℕ) : Type 0 where
-  pub item : List ℕ
-  pub right : IsInstanceItem lang inst item
-  pub appended : new ≡ old ++ item
+-- the line before the items
+abbrev pub head_line : List ℕ
+head_line = printed_line (codes "polyanna-report" ∷ codes "1" ∷ [])
+
+-- the line behind them
+abbrev pub last_line : List ℕ
+last_line = printed_line (codes "end" ∷ [])
+
+-- what a class's line says: its table, `none` or `beyond`
+abbrev pub line_tokens : Line → List (List ℕ)
+line_tokens Beyond = codes "beyond" ∷ []
+line_tokens (Sought None) = codes "none" ∷ []
+line_tokens (Sought (Some cells)) = map decimal cells
+
+-- the line of a class
+abbrev pub class_line : ClassName → Line → List ℕ
+class_line class line = printed_line (codes "class" ∷ class_word class ∷ line_tokens line)
+
+-- a line of an instance
+abbrev pub instance_line : List ℕ → List (List ℕ) → List ℕ
+instance_line name tokens = printed_line (codes "instance" ∷ name ∷ tokens)
+
+-- the item of an instance that is not answered
+abbrev pub undecided_item : List ℕ → List ℕ
+undecided_item name = instance_line name (codes "undecided" ∷ [])
+
+-- the item of a solution, found by the method of the class
+abbrev pub yes_item : List ℕ → ClassName → List ℕ → List ℕ
+yes_item name class values = instance_line name (codes "yes" ∷ class_word class ∷ map decimal values)
+
+-- what a step rests on: `c` and a constraint, or `v` and a variable
+abbrev pub basis_tokens : Basis → List (List ℕ)
+basis_tokens (Basis.ByConstraint c) = codes "c" ∷ decimal c ∷ []
+basis_tokens (Basis.ByVariable v) = codes "v" ∷ decimal v ∷ []
+
+-- the variable and the value of a pair
+abbrev pub pair_tokens : Pair → List (List ℕ)
+pair_tokens p = decimal p.variable ∷ decimal p.value ∷ []
+
+-- the pairs of a nogood behind their number
+abbrev pub nogood_tokens : List Pair → List (List ℕ)
+nogood_tokens nogood = decimal (length nogood) ∷ flat_map pair_tokens nogood
+
+-- the references of a step behind their number
+abbrev pub reference_tokens : List ℕ → List (List ℕ)
+reference_tokens references = decimal (length references) ∷ map decimal references
+
+-- what the step rests on, its pairs and its references
+abbrev pub step_line : StepView → List ℕ
+step_line s = printed_line (basis_tokens s.basis ++ nogood_tokens s.nogood ++ reference_tokens s.references)
+
+-- the item of a No: how many steps its log has, and the steps
+abbrev pub no_item : List ℕ → ClassName → List StepView → List ℕ
+no_item name class log =
+    instance_line name (codes "no" ∷ class_word class ∷ decimal (length log) ∷ []) ++ joined step_line log

@@ -1,4 +1,6 @@
-pub mod Endings
-pub mod Runs
-pub mod DueAnswers
 pub mod Items
+pub mod Reports
+pub mod Due
+pub mod Runs
+pub mod Solving
+pub mod Laws

@@ -1,12 +1,13 @@
-ghost use Rattle.std.specs.Prelude.{◌≡◌, ◌++◌, codes, decimal, OnOk};
-ghost use Rattle.pol_base.specs.Names.{class_named};
+ghost use Rattle.std.specs.Prelude.{◌≡◌, ◌++◌, [], ◌∷◌, length, codes, decimal};
+ghost use Rattle.pol_base.specs.Names.{class_word};
+ghost use Rattle.pol_text.specs.Texts.{Puts, joined, spaced_texts, printed_line};
 ghost use Rattle.pol_nogood.specs.Steps.{step_named};
-ghost use Rattle.pol_defs.specs.Nogoods.{Basis};
-ghost use Rattle.pol_defs.specs.Reports.{class_line, undecided_line, yes_line, no_lines, steps_text, step_line, counted_pairs, counted_references, pairs_text};
+ghost use Rattle.pol_optable.specs.ClassLines.Line.{Sought};
+ghost use Rattle.pol_cli.specs.Items.{class_line, line_tokens, instance_line, undecided_item, yes_item, no_item, step_line, nogood_tokens, pair_tokens, reference_tokens};
 
 use pol_base::{ClassName, NoMemory, Numbers, Values};
 use pol_nogood::{Log, Nogood, Step};
-use pol_text::{put_number, put_numbers, put_spaced, put_values};
+use pol_text::{put_number, put_numbers, put_spaced, put_token, put_values};
 
 /// Appends the line of the class: its table, or `none`.
 pub(crate) fn put_class_line(
@@ -14,64 +15,95 @@ pub(crate) fn put_class_line(
     class: ClassName,
     table: &Option<Values>,
 ) -> Result<(), NoMemory>
-    ensures ok { OnOk result (out.new ≡ out.old ++ class_line (class_named class) table.now) }
+    ensures puts { Puts result out.old out.new (class_line class (Sought table.now)) }
 {
-    out.append(b"class ")?;
-    out.append(class.word())?;
-    let Some(cells) = table else {
-        return out.append(b" none\n");
-    };
-    put_values(out, cells.as_slice())?;
+    out.append(b"class")?;
+    put_token(out, class.word())?;
+    put_table(out, table)?;
     out.append(b"\n")
 }
 
-/// Appends the line of an instance that no class serves.
-pub(crate) fn put_undecided(out: &mut Values, name: &[u8]) -> Result<(), NoMemory>
-    ensures ok { OnOk result (out.new ≡ out.old ++ undecided_line name.now) }
+/// Appends the cells of the table, each behind a space, or `none`.
+fn put_table(out: &mut Values, table: &Option<Values>) -> Result<(), NoMemory>
+    ensures puts { Puts result out.old out.new (spaced_texts (line_tokens (Sought table.now))) }
 {
-    out.append(b"instance ")?;
-    out.append(name)?;
-    out.append(b" undecided\n")?;
-    Ok(())
+    match table {
+        Some(cells) => put_values(out, cells.as_slice()),
+        None => put_token(out, b"none"),
+    }
 }
 
-/// Appends the line of a solution.
+/// Appends the item of an instance that no class serves.
+pub(crate) fn put_undecided(out: &mut Values, name: &[u8]) -> Result<(), NoMemory>
+    ensures puts { Puts result out.old out.new (undecided_item name.now) }
+{
+    put_begun(out, name, b"undecided")?;
+    out.append(b"\n")
+}
+
+/// Appends `instance`, the name, and what the item is.
+fn put_begun(out: &mut Values, name: &[u8], word: &[u8]) -> Result<(), NoMemory>
+    ensures puts { Puts result out.old out.new (codes "instance" ++ spaced_texts (name.now ∷ word.now ∷ [])) }
+{
+    out.append(b"instance")?;
+    put_token(out, name)?;
+    put_token(out, word)
+}
+
+/// Appends `instance`, the name, the answer, and the class that gives it.
+fn put_answered(
+    out: &mut Values,
+    name: &[u8],
+    answer: &[u8],
+    class: ClassName,
+) -> Result<(), NoMemory>
+    ensures puts { Puts result out.old out.new
+        (codes "instance" ++ spaced_texts (name.now ∷ answer.now ∷ class_word class ∷ [])) }
+{
+    put_begun(out, name, answer)?;
+    put_token(out, class.word())
+}
+
+/// Appends the item of a solution.
 pub(crate) fn put_yes(
     out: &mut Values,
     name: &[u8],
     class: ClassName,
     values: &[u8],
 ) -> Result<(), NoMemory>
-    ensures ok { OnOk result (out.new ≡ out.old ++ yes_line name.now (class_named class) values.now) }
+    ensures puts { Puts result out.old out.new (yes_item name.now class values.now) }
 {
-    out.append(b"instance ")?;
-    out.append(name)?;
-    out.append(b" yes ")?;
-    out.append(class.word())?;
+    put_answered(out, name, b"yes", class)?;
     put_values(out, values)?;
     out.append(b"\n")
 }
 
-/// Appends the line that says that there is no solution, and the steps of the log behind it.
+/// Appends the item of a No: its line, and the steps of the log behind it.
 pub(crate) fn put_no(
     out: &mut Values,
     name: &[u8],
     class: ClassName,
     log: &Log,
 ) -> Result<(), NoMemory>
-    ensures ok { OnOk result (out.new ≡ out.old ++ no_lines name.now (class_named class) log.now) }
+    ensures puts { Puts result out.old out.new (no_item name.now class log.now) }
 {
-    out.append(b"instance ")?;
-    out.append(name)?;
-    out.append(b" no ")?;
-    out.append(class.word())?;
-    put_spaced(out, u64::from(log.len()))?;
-    out.append(b"\n")?;
+    put_no_line(out, name, class, log.len())?;
     put_steps(out, log)
 }
 
+/// Appends the line of a No, with the number of the steps of its log.
+fn put_no_line(out: &mut Values, name: &[u8], class: ClassName, steps: u32) -> Result<(), NoMemory>
+    ensures puts { Puts result out.old out.new
+        (instance_line name.now (codes "no" ∷ class_word class ∷ decimal steps ∷ [])) }
+{
+    put_answered(out, name, b"no", class)?;
+    put_spaced(out, u64::from(steps))?;
+    out.append(b"\n")
+}
+
+/// Appends the lines of the steps.
 fn put_steps(out: &mut Values, log: &Log) -> Result<(), NoMemory>
-    ensures ok { OnOk result (out.new ≡ out.old ++ steps_text log.now) }
+    ensures puts { Puts result out.old out.new (joined step_line log.now) }
 {
     for s in 0..log.len() {
         put_step(out, log.step(s))?;
@@ -80,11 +112,11 @@ fn put_steps(out: &mut Values, log: &Log) -> Result<(), NoMemory>
 }
 
 fn put_step(out: &mut Values, step: &Step) -> Result<(), NoMemory>
-    ensures ok { OnOk result (out.new ≡ out.old ++ step_line (step_named step.now)) }
+    ensures puts { Puts result out.old out.new (step_line (step_named step.now)) }
 {
     match step {
-        Step::ByConstraint { c, nogood, refs } => put_step_parts(out, b"c ", *c, nogood, refs),
-        Step::ByVariable { v, nogood, refs } => put_step_parts(out, b"v ", *v, nogood, refs),
+        Step::ByConstraint { c, nogood, refs } => put_step_parts(out, b"c", *c, nogood, refs),
+        Step::ByVariable { v, nogood, refs } => put_step_parts(out, b"v", *v, nogood, refs),
     }
 }
 
@@ -95,31 +127,34 @@ fn put_step_parts(
     nogood: &Nogood,
     refs: &Numbers,
 ) -> Result<(), NoMemory>
-    ensures ok { OnOk result (out.new ≡ out.old ++ (letter.now ++ decimal number ++ counted_pairs nogood.now ++ counted_references refs.now ++ codes "\n")) }
+    ensures puts { Puts result out.old out.new
+        (printed_line
+        ((letter.now ∷ decimal number ∷ []) ++ nogood_tokens nogood.now ++ reference_tokens refs.now)) }
 {
-    out.append(letter)?;
-    put_number(out, u64::from(number))?;
-    put_counted_pairs(out, nogood)?;
-    put_counted_references(out, refs.as_slice())?;
+    put_basis(out, letter, number)?;
+    put_nogood(out, nogood)?;
+    put_references(out, refs.as_slice())?;
     out.append(b"\n")
 }
 
-fn put_counted_pairs(out: &mut Values, nogood: &Nogood) -> Result<(), NoMemory>
-    ensures ok { OnOk result (out.new ≡ out.old ++ counted_pairs nogood.now) }
+/// Appends what a step rests on: a letter and a number.
+fn put_basis(out: &mut Values, letter: &[u8], number: u32) -> Result<(), NoMemory>
+    ensures puts { Puts result out.old out.new (letter.now ++ spaced_texts (decimal number ∷ [])) }
+{
+    out.append(letter)?;
+    put_spaced(out, u64::from(number))
+}
+
+/// Appends the pairs behind their number.
+fn put_nogood(out: &mut Values, nogood: &Nogood) -> Result<(), NoMemory>
+    ensures puts { Puts result out.old out.new (spaced_texts (nogood_tokens nogood.now)) }
 {
     put_spaced(out, u64::from(nogood.len()))?;
     put_pairs(out, nogood)
 }
 
-fn put_counted_references(out: &mut Values, references: &[u32]) -> Result<(), NoMemory>
-    ensures ok { OnOk result (out.new ≡ out.old ++ counted_references references.now) }
-{
-    put_spaced(out, references.len() as u64)?;
-    put_numbers(out, references)
-}
-
 fn put_pairs(out: &mut Values, nogood: &Nogood) -> Result<(), NoMemory>
-    ensures ok { OnOk result (out.new ≡ out.old ++ pairs_text nogood.now) }
+    ensures puts { Puts result out.old out.new (joined (λ p. spaced_texts (pair_tokens p)) nogood.now) }
 {
     for i in 0..nogood.len() {
         let (variable, value) = nogood.pair(i);
@@ -129,8 +164,17 @@ fn put_pairs(out: &mut Values, nogood: &Nogood) -> Result<(), NoMemory>
 }
 
 fn put_pair(out: &mut Values, variable: u32, value: u8) -> Result<(), NoMemory>
-    ensures ok { OnOk result (out.new ≡ out.old ++ codes " " ++ decimal variable ++ codes " " ++ decimal value) }
+    ensures puts { Puts result out.old out.new
+        (spaced_texts (pair_tokens (record { variable = variable; value = value }))) }
 {
     put_spaced(out, u64::from(variable))?;
     put_spaced(out, u64::from(value))
+}
+
+/// Appends the references behind their number.
+fn put_references(out: &mut Values, references: &[u32]) -> Result<(), NoMemory>
+    ensures puts { Puts result out.old out.new (spaced_texts (reference_tokens references.now)) }
+{
+    put_spaced(out, references.len() as u64)?;
+    put_numbers(out, references)
 }

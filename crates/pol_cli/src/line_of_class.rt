@@ -1,5 +1,8 @@
 ghost use Rattle.std.specs.Prelude.{◌≡◌, ℕ, ◌↔◌, ◌<◌, replicate, IfOk, IfSome, IfNone, IsTrue};
-ghost use Rattle.pol_defs.specs.Classes.{ConstantLine, HoldsConstant, ClosedUnder};
+ghost use Rattle.pol_base.specs.declared.class_name.ClassName.TheVariants.{Constant};
+ghost use Rattle.pol_optable.specs.Constants.{HoldsConstant, ClosedUnder};
+ghost use Rattle.pol_optable.specs.ClassLines.{ClassLine};
+ghost use Rattle.pol_optable.specs.ClassLines.Line.{Sought};
 
 use pol_base::{Domain, NoMemory, Values};
 use pol_relation::{Language, Relation};
@@ -8,7 +11,7 @@ use std::alloc::Global;
 /// The least table of the class `constant` that preserves every relation, where there is one:
 /// `a a .. a` for the least value `a` for which each relation is empty or has the row `a a .. a`.
 pub fn constant_line(alloc: Global, lang: &Language) -> Result<Option<Values>, NoMemory>
-    ensures line { IfOk result (ConstantLine lang.now) }
+    ensures line { IfOk result (λ table. ClassLine Constant lang.now (Sought table)) }
 {
     let d = lang.domain();
     match least_constant(lang) {
@@ -21,8 +24,8 @@ pub fn constant_line(alloc: Global, lang: &Language) -> Result<Option<Values>, N
 fn least_constant(lang: &Language) -> Option<u8>
     ensures within { IfSome result (λ a. a < lang.now.domain) }
     ensures closed { IfSome result (ClosedUnder lang.now) }
-    ensures least { IfSome result (λ a. (b : ℕ) → b < a → ClosedUnder lang.now b → ⊥) }
-    ensures none { IfNone result ((b : ℕ) → b < lang.now.domain → ClosedUnder lang.now b → ⊥) }
+    ensures least { IfSome result (λ a. (b : ℕ) → b < a → ¬ ClosedUnder lang.now b) }
+    ensures none { IfNone result ((b : ℕ) → b < lang.now.domain → ¬ ClosedUnder lang.now b) }
 {
     for value in 0..lang.domain().size() {
         if keeps_all(lang, value) {

@@ -1,9 +1,10 @@
-ghost use Rattle.std.specs.Prelude.{Some, OnOk, IfOk};
-ghost use Rattle.pol_defs.specs.Classes.{ConstantLine};
-ghost use Rattle.pol_defs.specs.Relations.{IsLanguage};
-ghost use Rattle.pol_defs.specs.Instances.{Fits};
-ghost use Rattle.pol_defs.specs.Reports.{IsReport, HasItems, item_count};
-ghost use Rattle.pol_cli.specs.Items.{AppendsItem};
+ghost use Rattle.std.specs.Prelude.{map, Some, OnOk, IfOk};
+ghost use Rattle.pol_base.specs.declared.class_name.ClassName.TheVariants.{Constant};
+ghost use Rattle.pol_relation.specs.Relations.{IsLanguage};
+ghost use Rattle.pol_relation.specs.Instances.{Fits};
+ghost use Rattle.pol_optable.specs.ClassLines.{ClassLine, built};
+ghost use Rattle.pol_optable.specs.ClassLines.Line.{Sought};
+ghost use Rattle.pol_cli.specs.Reports.{Subject, subjects, HasItems, AppendsItem, IsReport};
 
 use crate::items::{put_class_line, put_no, put_undecided, put_yes};
 use crate::line_of_class::constant_line;
@@ -18,10 +19,10 @@ use std::alloc::Global;
 pub(crate) fn report_text(alloc: Global, file: &File) -> Result<Values, NoMemory>
     ensures report { IfOk result (IsReport file.now) }
 {
-    let line = constant_line(alloc, file.lang())?;
+    let table = constant_line(alloc, file.lang())?;
     let mut text = Values::from_slice(alloc, b"polyanna-report 1\n")?;
-    put_class_line(&mut text, ClassName::Constant, &line)?;
-    put_instances(alloc, &mut text, file, &line)?;
+    put_class_line(&mut text, ClassName::Constant, &table)?;
+    put_instances(alloc, &mut text, file, &table)?;
     text.append(b"end\n")?;
     Ok(text)
 }
@@ -31,14 +32,14 @@ fn put_instances(
     alloc: Global,
     text: &mut Values,
     file: &File,
-    line: &Option<Values>,
+    table: &Option<Values>,
 ) -> Result<(), NoMemory>
-    requires line { ConstantLine file.now.language line.now }
-    requires begun { HasItems 1 file.now text.old }
-    ensures all { OnOk result (HasItems (item_count file.now) file.now text.new) }
+    requires line { ClassLine Constant file.now.language (Sought table.now) }
+    requires begun { HasItems file.now.language (map Subject.OfClass built) text.old }
+    ensures all { OnOk result (HasItems file.now.language (subjects file.now) text.new) }
 {
     for i in 0..file.instances() {
-        put_instance(alloc, text, file.lang(), file.instance(i), line)?;
+        put_instance(alloc, text, file.lang(), file.instance(i), table)?;
     }
     Ok(())
 }
@@ -49,14 +50,14 @@ fn put_instance(
     text: &mut Values,
     lang: &Language,
     inst: &Instance,
-    line: &Option<Values>,
+    table: &Option<Values>,
 ) -> Result<(), NoMemory>
     requires language { IsLanguage lang.now }
     requires fits { Fits lang.now inst.now }
-    requires line { ConstantLine lang.now line.now }
-    ensures item { OnOk result (AppendsItem lang.now inst.now text.old text.new) }
+    requires line { ClassLine Constant lang.now (Sought table.now) }
+    ensures item { OnOk result (AppendsItem lang.now (Subject.OfInstance inst.now) text.old text.new) }
 {
-    match line {
+    match table {
         Some(cells) => put_answer(alloc, text, lang, inst, cells.as_slice()),
         None => put_undecided(text, inst.name()),
     }
@@ -72,8 +73,8 @@ fn put_answer(
 ) -> Result<(), NoMemory>
     requires language { IsLanguage lang.now }
     requires fits { Fits lang.now inst.now }
-    requires line { ConstantLine lang.now (Some cells.now) }
-    ensures item { OnOk result (AppendsItem lang.now inst.now text.old text.new) }
+    requires line { ClassLine Constant lang.now (Sought (Some cells.now)) }
+    ensures item { OnOk result (AppendsItem lang.now (Subject.OfInstance inst.now) text.old text.new) }
 {
     match solve_constant(alloc, lang, inst, cells[0])? {
         LogAnswer::Yes(values) => put_yes(

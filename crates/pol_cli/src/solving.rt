@@ -1,8 +1,9 @@
 ghost use Rattle.std.specs.Prelude.{◌≡◌, ◌<◌, [], length, replicate, IfOk, IfSome, IfNone};
-ghost use Rattle.pol_defs.specs.Classes.{ClosedUnder};
-ghost use Rattle.pol_defs.specs.Relations.{rows_of};
-ghost use Rattle.pol_defs.specs.Instances.{Fits, UsesRows, constraint_of};
-ghost use Rattle.pol_defs.specs.ValidLogs.{breaking_log};
+ghost use Rattle.pol_optable.specs.Constants.{ClosedUnder};
+ghost use Rattle.pol_cli.specs.Solving.{IsFirstEmpty, NoRestsOnFirstEmpty};
+ghost use Rattle.pol_relation.specs.Relations.{rows_of};
+ghost use Rattle.pol_relation.specs.Instances.{Fits, UsesRows, constraint_of};
+ghost use Rattle.pol_nogood.specs.Logs.{breaking_log};
 ghost use Rattle.pol_nogood.specs.Answers.{YesSolves, NoOnlyWithoutSolution, NoHasCertificate};
 
 use pol_base::{NoMemory, Numbers, Values};
@@ -25,6 +26,7 @@ pub(crate) fn solve_constant(
     ensures yes { IfOk result (YesSolves lang.now inst.now) }
     ensures no_only_without_solution { IfOk result (NoOnlyWithoutSolution lang.now inst.now) }
     ensures certificate { IfOk result (NoHasCertificate 1 lang.now inst.now) }
+    ensures first { IfOk result (NoRestsOnFirstEmpty lang.now inst.now) }
 {
     match first_without_rows(lang, inst) {
         Some(c) => Ok(LogAnswer::No(breaking_log(alloc, c)?)),
@@ -35,8 +37,7 @@ pub(crate) fn solve_constant(
 /// The first constraint whose relation is empty.
 fn first_without_rows(lang: &Language, inst: &Instance) -> Option<u32>
     requires fits { Fits lang.now inst.now }
-    ensures known { IfSome result (λ c. c < length inst.now.constraints) }
-    ensures empty { IfSome result (λ c. rows_of lang.now (constraint_of inst.now c).relation ≡ []) }
+    ensures first { IfSome result (IsFirstEmpty lang.now inst.now) }
     ensures none { IfNone result (UsesRows lang.now inst.now) }
 {
     for c in 0..inst.constraints() {

@@ -1,13 +1,11 @@
-ghost use Rattle.std.specs.Prelude.{◌≡◌, ◌↔◌, ◌≤◌, ◌+◌, ◌⊎◌, ◌^◌, length, IfOk, OnOk, IsErrOf, IfSome, IsSome, IsTrue};
+ghost use Rattle.std.specs.Prelude.{◌≡◌, ◌↔◌, ◌≤◌, ◌+◌, ◌⊎◌, length, IfOk, OnOk, IsErrOf, IsTrue};
 ghost use Rattle.std.specs.Io.KnownBytes.{IsAtEnd};
 ghost use Rattle.pol_outside.specs.Contents.{Takes, TakesAtMost};
 ghost use Rattle.pol_outside.specs.Faults.{Rose};
-ghost use Rattle.pol_text.specs.Words.{refusal_named};
-ghost use Rattle.pol_defs.specs.Refusals.{refusal_line};
-ghost use Rattle.pol_defs.specs.Due.{AsksReport, AreKnown, AskInput, most_bytes};
-ghost use Rattle.pol_cli.specs.Endings.{ending_of};
-ghost use Rattle.pol_cli.specs.Runs.{texts_of, WritesDue, WritesFront, HasRead};
-ghost use Rattle.pol_cli.specs.DueAnswers.{report_words, IsAnswer, IsAnswerFor, Writes};
+ghost use Rattle.pol_text.specs.Refusals.{refusal_line};
+ghost use Rattle.pol_lang.specs.Limits.{most_bytes};
+ghost use Rattle.pol_cli.specs.Due.{AsksReport, AreKnown, AskInput, IsDue, report_words};
+ghost use Rattle.pol_cli.specs.Runs.{texts_of, IsAnswer, IsDueFor, WritesDue, WritesFront, HasRead, NotTooLong, Writes};
 
 use crate::Ended;
 use crate::report::report_text;
@@ -33,20 +31,33 @@ pub fn run<S: Source, O: Sink>(
     sink: &mut O,
 ) -> Ended
     // The answer and the appended text are due.
-    ensures due { IfSome (ending_of result) (WritesDue (texts_of words.now) (S.left source.old) (O.written sink.old) (O.written sink.new)) }
+    ensures due { IsAnswer result
+        → WritesDue (texts_of words.now) (S.left source.old) (O.written sink.old) (O.written sink.new) result }
 
     // What is left of the input.
     ensures read { AskInput (texts_of words.now) → HasRead result (S.left source.old) (S.left source.new) }
     ensures unread { ¬ AskInput (texts_of words.now) → source.new ≡ source.old }
 
     // What cuts a run off, and what stands written then.
-    ensures read_fault { result ≡ Ended.ReadFault → AskInput (texts_of words.now) × Rose (S.faults source.old) (S.faults source.new) × (sink.new ≡ sink.old) }
-    ensures write_fault { result ≡ Ended.WriteFault → Rose (O.faults sink.old) (O.faults sink.new) × WritesFront (texts_of words.now) (S.left source.old) (O.written sink.old) (O.written sink.new) }
-    ensures no_memory { result ≡ Ended.NoMemory → AreKnown (texts_of words.now) × WritesFront (texts_of words.now) (S.left source.old) (O.written sink.old) (O.written sink.new) }
-    ensures no_memory_early { result ≡ Ended.NoMemory → AskInput (texts_of words.now) → IsAtEnd (S.left source.new) ⊎ (sink.new ≡ sink.old) }
+    ensures read_fault { result ≡ Ended.ReadFault → Rose (S.faults source.old) (S.faults source.new) }
+    ensures read_fault_asked { result ≡ Ended.ReadFault → AskInput (texts_of words.now) × (sink.new ≡ sink.old) }
+    ensures write_fault { result ≡ Ended.WriteFault → Rose (O.faults sink.old) (O.faults sink.new) }
+    ensures write_fault_front { result ≡ Ended.WriteFault
+        → WritesFront (texts_of words.now) (S.left source.old) (O.written sink.old) (O.written sink.new) }
+    ensures no_memory { result ≡ Ended.NoMemory → AreKnown (texts_of words.now) }
+    ensures no_memory_front { result ≡ Ended.NoMemory
+        → WritesFront (texts_of words.now) (S.left source.old) (O.written sink.old) (O.written sink.new) }
+    ensures no_memory_early { result ≡ Ended.NoMemory → AskInput (texts_of words.now)
+        → IsAtEnd (S.left source.new) ⊎ (sink.new ≡ sink.old) }
+
+    // A fault is told.
+    ensures read_calm { ¬ (result ≡ Ended.ReadFault) → S.faults source.new ≡ S.faults source.old }
+    ensures write_calm { ¬ (result ≡ Ended.WriteFault) → O.faults sink.new ≡ O.faults sink.old }
 
     // Where no count rose, the answer is due, or memory ran out.
-    ensures complete { ¬ Rose (S.faults source.old) (S.faults source.new) → ¬ Rose (O.faults sink.old) (O.faults sink.new) → IsSome (ending_of result) ⊎ (result ≡ Ended.NoMemory) }
+    ensures complete { ¬ Rose (S.faults source.old) (S.faults source.new)
+        → ¬ Rose (O.faults sink.old) (O.faults sink.new)
+        → IsAnswer result ⊎ (result ≡ Ended.NoMemory) }
 {
     if !asks_report(words) {
         return write(sink, USAGE, Ended::Usage);
@@ -70,7 +81,8 @@ fn asks_report(words: &[String]) -> bool
 
 /// Writes the text, and ends so where it was written.
 fn write<O: Sink>(sink: &mut O, text: &[u8], ended: Ended) -> Ended
-    ensures writes { Writes ended result text.now (O.written sink.old) (O.written sink.new) (O.faults sink.old) (O.faults sink.new) }
+    ensures writes { Writes ended result text.now
+        (O.written sink.old) (O.written sink.new) (O.faults sink.old) (O.faults sink.new) }
 {
     match write_all(sink, text) {
         Ok(()) => ended,
@@ -98,12 +110,17 @@ impl From<NoMemory> for Stop {
 
 /// Reads the input to its end, and makes the text that is due for it.
 fn prepare<S: Source>(alloc: Global, source: &mut S) -> Result<(Values, Ended), Stop>
-    ensures answer { IfOk result (λ made. IsAnswerFor report_words (S.left source.old) made.0 made.1) }
+    ensures due { IfOk result (λ made. IsDueFor report_words (S.left source.old) made.0 made.1) }
+    ensures answer { IfOk result (λ made. IsAnswer made.1) }
     ensures read { IfOk result (λ made. HasRead made.1 (S.left source.old) (S.left source.new)) }
-    ensures taken { OnOk result (IsAtEnd (S.left source.new) ⊎ Takes (S.left source.old) (S.left source.new) (most_bytes + 1)) }
+    ensures taken { OnOk result (IsAtEnd (S.left source.new)
+        ⊎ Takes (S.left source.old) (S.left source.new) (most_bytes + 1)) }
     ensures read_fault { IsErrOf result Stop.ReadFault → Rose (S.faults source.old) (S.faults source.new) }
-    ensures read_fault_taken { IsErrOf result Stop.ReadFault → TakesAtMost (S.left source.old) (S.left source.new) most_bytes }
-    ensures no_memory { IsErrOf result Stop.NoMemory → TakesAtMost (S.left source.old) (S.left source.new) (most_bytes + 1) }
+    ensures read_fault_taken { IsErrOf result Stop.ReadFault
+        → TakesAtMost (S.left source.old) (S.left source.new) most_bytes }
+    ensures no_memory { IsErrOf result Stop.NoMemory
+        → TakesAtMost (S.left source.old) (S.left source.new) (most_bytes + 1) }
+    ensures calm { ¬ IsErrOf result Stop.ReadFault → S.faults source.new ≡ S.faults source.old }
 {
     match read_all(alloc, source, MOST_BYTES) {
         Ok(bytes) => Ok(report(alloc, bytes.as_slice())?),
@@ -121,8 +138,10 @@ fn prepare<S: Source>(alloc: Global, source: &mut S) -> Result<(Values, Ended), 
 
 /// What `report` writes for the input, and how it ends.
 fn report(alloc: Global, bytes: &[u8]) -> Result<(Values, Ended), NoMemory>
-    requires few { length bytes.now ≤ 2 ^ 28 }
-    ensures answer { IfOk result (λ made. IsAnswer report_words bytes.now made.0 made.1) }
+    requires few { length bytes.now ≤ most_bytes }
+    ensures due { IfOk result (λ made. IsDue report_words bytes.now made.0 made.1) }
+    ensures answer { IfOk result (λ made. IsAnswer made.1) }
+    ensures word { IfOk result (λ made. NotTooLong made.1) }
 {
     let (file, rest) = match read_file(alloc, bytes) {
         Ok(read) => read,
@@ -137,7 +156,7 @@ fn report(alloc: Global, bytes: &[u8]) -> Result<(Values, Ended), NoMemory>
 
 /// The line of the refusal.
 fn refused(alloc: Global, refusal: Refusal) -> Result<(Values, Ended), NoMemory>
-    ensures refused { IfOk result (λ made. made ≡ (refusal_line (refusal_named refusal), Ended.Refused refusal)) }
+    ensures refused { IfOk result (λ made. made ≡ (refusal_line refusal, Ended.Refused refusal)) }
 {
     let mut text = Values::new(alloc);
     put_refusal(&mut text, refusal)?;

@@ -1,9 +1,9 @@
 -- The values of tokens, read behind a front.
 use Rattle.std.proofs.Common.{◌≡◌, ℕ, List, ◌++◌, length, Result, Ok, Err}
-use Rattle.pol_defs.specs.Refusals.{Word}
-use Rattle.pol_defs.specs.Tuples.{IsTuple}
-use Rattle.pol_defs.specs.Grammar.{values_of}
-use Rattle.pol_defs.proofs.AcceptedLines.{values_of-write}
+use Rattle.pol_text.specs.declared.word.Word.{Word}
+use Rattle.pol_base.specs.Tuples.{IsTuple}
+use Rattle.pol_lang.specs.Grammar.{values_of}
+use Rattle.pol_lang.proofs.AcceptedLines.{values_of-write}
 
 abbrev pub with_front : List ℕ → Result (List ℕ) Word → Result (List ℕ) Word
 with_front front (Ok values) = Ok (front ++ values)

@@ -1,9 +1,10 @@
-ghost use Rattle.std.specs.Prelude.{◌≡◌, ◌-◌, drop, length};
-ghost use Rattle.pol_defs.specs.Lines.{token_at};
-ghost use Rattle.pol_defs.specs.Grammar.{begins_with, header_line, domain_line, end_line, entry_line};
-ghost use Rattle.pol_lang.specs.Reading.{Judges, Changes};
+ghost use Rattle.std.specs.Prelude.{◌≡◌, drop};
+ghost use Rattle.pol_text.specs.Lines.{token_at};
+ghost use Rattle.pol_text.specs.Reading.{begins_with, Judges};
+ghost use Rattle.pol_lang.specs.Grammar.{header_line, domain_line, end_line, entry_line};
+ghost use Rattle.pol_lang.specs.Reading.{Changes};
 
-use crate::draft::Draft;
+use crate::File;
 use crate::instance_lines::{constraint_line, instance_line};
 use crate::language_lines::language_line;
 use crate::line_fail::LineFail;
@@ -46,7 +47,7 @@ pub(crate) fn begins_with(line: &Line<'_>, keyword: &[u8]) -> bool
 }
 
 /// `polyanna 1`, which gives the version.
-#[tactic(auto, unfolding(pol_defs::specs::Grammar::header_line))]
+#[tactic(auto, unfolding(crate::specs::Grammar::header_line))]
 pub(crate) fn header_line(line: &Line<'_>) -> Result<u32, Word>
     ensures judged { Judges result (header_line line.now.tokens) }
 {
@@ -63,7 +64,7 @@ pub(crate) fn header_line(line: &Line<'_>) -> Result<u32, Word>
 }
 
 /// `domain N`.
-#[tactic(auto, unfolding(pol_defs::specs::Grammar::domain_line))]
+#[tactic(auto, unfolding(crate::specs::Grammar::domain_line))]
 pub(crate) fn domain_line(line: &Line<'_>) -> Result<Domain, Word>
     ensures judged { Judges result (domain_line line.now.tokens) }
 {
@@ -91,22 +92,22 @@ pub(crate) fn end_line(line: &Line<'_>) -> Result<u32, Word>
 }
 
 /// An instance, a constraint of the last instance, or before the first instance a line of the language.
-#[tactic(auto, unfolding(pol_defs::specs::Grammar::entry_line))]
-pub(crate) fn entry_line(alloc: Global, draft: &mut Draft, line: &Line<'_>) -> Result<(), LineFail>
-    ensures changes { Changes result draft.new (entry_line draft.old line.now.tokens) }
+#[tactic(auto, unfolding(crate::specs::Grammar::entry_line))]
+pub(crate) fn entry_line(alloc: Global, file: &mut File, line: &Line<'_>) -> Result<(), LineFail>
+    ensures changes { Changes result file.new (entry_line file.old line.now.tokens) }
 {
     if begins_with(line, b"instance") {
-        return instance_line(alloc, draft, line);
+        return instance_line(alloc, file, line);
     }
-    let instances = draft.file().instances();
+    let instances = file.instances();
     if begins_with(line, b"constraint") {
         if instances == 0 {
             return Err(LineFail::Refused(Word::BadLine));
         }
-        return constraint_line(alloc, draft, line);
+        return constraint_line(alloc, file, line);
     }
     if instances != 0 {
         return Err(LineFail::Refused(Word::BadLine));
     }
-    language_line(alloc, draft, line)
+    language_line(alloc, file, line)
 }

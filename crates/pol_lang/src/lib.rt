@@ -1,7 +1,6 @@
 //! Files: a constraint language and instances over it, read from a text and written as one.
 #![tactic(auto)]
 
-mod draft;
 mod entries;
 mod file;
 mod instance_lines;
@@ -13,4 +12,4 @@ mod writing;
 
 pub use file::{File, FileFault, Rest};
 pub use reading::{nothing_more, read_file};
-pub use writing::put_file;
+pub use writing::{canonical_laws, put_file};

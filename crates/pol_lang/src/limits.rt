@@ -1,8 +1,9 @@
 //! The limits of files, and what is within them.
 
 ghost use Rattle.std.specs.Prelude.{◌≡◌, ◌≤◌, ◌↔◌, length, true, All, IsTrue};
-ghost use Rattle.pol_defs.specs.Lines.{is_name};
-ghost use Rattle.pol_defs.specs.Files.{IsFileLanguage, IsFileInstance};
+ghost use Rattle.pol_text.specs.Lines.{is_name};
+ghost use Rattle.pol_lang.specs.Files.{IsFileLanguage, IsFileInstance};
+ghost use Rattle.pol_lang.specs.Limits.{most_tuples};
 
 use pol_relation::{Instance, Language};
 use pol_text::is_name;
@@ -13,8 +14,8 @@ pub(crate) const MOST_RELATIONS: u32 = 32;
 
 pub(crate) const MOST_TUPLES: u32 = 128;
 
-/// The greatest sum of |R|^3, and the greatest sum of vectors of masks.
-pub(crate) const MOST_WEIGHT: u32 = 1 << 21;
+/// The greatest sum of |R|^3, and the greatest sum of vectors of nonempty sets.
+pub(crate) const MOST_WEIGHT: u64 = 1 << 21;
 
 pub(crate) const MOST_INSTANCES: u32 = 8;
 
@@ -29,10 +30,10 @@ pub(crate) fn is_file_language(lang: &Language) -> bool
     if MOST_RELATIONS < lang.len() {
         return false;
     }
-    if u64::from(MOST_WEIGHT) < lang.weight(3) {
+    if MOST_WEIGHT < lang.weight(3) {
         return false;
     }
-    if u64::from(MOST_WEIGHT) < lang.subset_weight() {
+    if MOST_WEIGHT < lang.subset_weight() {
         return false;
     }
     if !has_small_relations(lang) {
@@ -42,13 +43,13 @@ pub(crate) fn is_file_language(lang: &Language) -> bool
 }
 
 fn has_small_relations(lang: &Language) -> bool
-    ensures small { IsTrue result ↔ All (λ named. length named.1.rows ≤ 128) lang.now.relations }
+    ensures small { IsTrue result ↔ All (λ named. length named.relation.rows ≤ most_tuples) lang.now.relations }
 {
     (0..lang.len()).all(|i| lang.relation(i).len() <= MOST_TUPLES)
 }
 
 fn has_named_relations(lang: &Language) -> bool
-    ensures named { IsTrue result ↔ All (λ named. is_name named.0 ≡ true) lang.now.relations }
+    ensures named { IsTrue result ↔ All (λ named. is_name named.name ≡ true) lang.now.relations }
 {
     (0..lang.len()).all(|i| is_name(lang.name(i)))
 }

@@ -1,9 +1,10 @@
 -- A checker that walks cases beside references: what is left of both tells what all do.
 use Rattle.std.proofs.Common.{◌≡◌, ℕ, ◌+◌, ◌<◌, Bool, true, false, ◌&&◌, List, [], ◌∷◌, ◌++◌, length, drop, get_or, refl, sym, ap, ◌∙◌, subst, arith}
 use Rattle.std.proofs.lemmas.List.{drop-drop}
-use Rattle.pol_defs.specs.Nogoods.{Pair, StepView, contained_in, reading, is_case, value_case, nogood_at, covered}
-use Rattle.pol_defs.specs.ValidLogs.{row_cases, value_cases}
-use Rattle.pol_defs.proofs.LogWalks.{no_references, row_cases-skip, row_cases-next, values_from, values_from-next}
+use Rattle.pol_nogood.specs.Nogoods.{Pair}
+use Rattle.pol_nogood.specs.Logs.{StepView, nogood_at, reading, is_case, row_cases, value_case, value_cases}
+use Rattle.pol_nogood.specs.LogFaults.{contained_in, covered}
+use Rattle.pol_nogood.proofs.LogWalks.{no_references, row_cases-skip, row_cases-next, values_from, values_from-next}
 
 module _ (earlier : List StepView) (nogood : List Pair) where
   and_true : (b c : Bool) → (b && c) ≡ ((b && true) && c)

@@ -1,3 +1,12 @@
 pub mod PairWalks
 pub mod CaseWalks
 pub mod StepFaults
+pub mod Counting
+pub mod LogCases
+pub mod LogExamples
+pub mod FaultLemmas
+pub mod LogLemmas
+pub mod LogMaking
+pub mod LogSound
+pub mod LogWalks
+pub mod PackedPairs

@@ -4,7 +4,7 @@ use Rattle.std.specs.List.{list_any, list_all}
 use Rattle.std.proofs.lemmas.Bool.{and_from}
 use Rattle.std.proofs.lemmas.List.Folds.{list_all_more, list_any_at, list_all_at}
 use Rattle.std.proofs.lemmas.Option.{get_or_from_slice_get, slice_get_within}
-use Rattle.pol_defs.specs.Nogoods.{reading}
+use Rattle.pol_nogood.specs.Logs.{reading}
 
 -- a test of each element, as far as a loop has come
 module _ {X : Type 0} (test : X → Bool) (xs : List X) where

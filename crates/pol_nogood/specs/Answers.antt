@@ -1,10 +1,11 @@
 -- What a solver promises of an answer whose No is a log.
-use Rattle.std.specs.Prelude.{◌≡◌, ℕ, List, None, ⊤}
-use Rattle.pol_defs.specs.Relations.{LanguageView}
-use Rattle.pol_defs.specs.Instances.{InstanceView, IsSolution}
-use Rattle.pol_defs.specs.Nogoods.{StepView, log_fault, FitsMost}
+use Rattle.std.specs.Prelude.{ℕ, List, ⊤}
+use Rattle.pol_relation.specs.Relations.{LanguageView}
+use Rattle.pol_relation.specs.Instances.{InstanceView, IsSolution, HasNoSolution}
 use Rattle.pol_nogood.specs.declared.log.LogAnswer.{LogAnswer}
 use Rattle.pol_nogood.specs.declared.log.LogAnswer.TheVariants as answer
+use Rattle.pol_nogood.specs.Logs.{StepView, FitsMost}
+use Rattle.pol_nogood.specs.ValidLogs.{IsValidLog}
 
 -- a Yes holds a solution
 abbrev pub YesSolves : LanguageView → InstanceView → LogAnswer → Type 0
@@ -14,11 +15,11 @@ YesSolves lang inst (answer.No log) = ⊤
 -- a No comes only where there is no solution
 abbrev pub NoOnlyWithoutSolution : LanguageView → InstanceView → LogAnswer → Type 0
 NoOnlyWithoutSolution lang inst (answer.Yes values) = ⊤
-NoOnlyWithoutSolution lang inst (answer.No log) = (assignment : List ℕ) → IsSolution lang inst assignment → ⊥
+NoOnlyWithoutSolution lang inst (answer.No log) = HasNoSolution lang inst
 
--- the log shows it, with pairwise different nogoods of at most so many pairs
+-- the log is valid, and has pairwise different nogoods of at most so many pairs
 pub record IsCertificate (most : ℕ) (lang : LanguageView) (inst : InstanceView) (log : List StepView) : Type 0 where
-  pub valid : log_fault lang inst log ≡ None
+  pub valid : IsValidLog lang inst log
   pub fits : FitsMost most log
 
 -- a No has a certificate

@@ -1,3 +1,7 @@
+pub mod Nogoods
+pub mod Logs
 pub mod Steps
-pub mod Faults
+pub mod LogFaults
+pub mod ValidLogs
 pub mod Answers
+pub mod Laws

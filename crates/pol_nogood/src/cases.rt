@@ -1,6 +1,8 @@
 ghost use Rattle.std.specs.Prelude.{◌≡◌, ◌==◌, ◌++◌, length};
 ghost use Rattle.std.specs.List.{list_any, list_all};
-ghost use Rattle.pol_defs.specs.Nogoods.{same_pair, contained_in, compatible, pairs_placed, ascending_pairs, reading, is_case};
+ghost use Rattle.pol_nogood.specs.LogFaults.{same_pair, contained_in, pairs_placed, ascending_pairs};
+ghost use Rattle.pol_nogood.specs.Nogoods.{Pair};
+ghost use Rattle.pol_nogood.specs.Logs.{compatible, reading, is_case};
 
 use crate::Nogood;
 
@@ -46,7 +48,8 @@ pub fn is_ascending(nogood: &Nogood) -> bool
 
 /// Whether the pair is one of the nogood.
 fn has_pair(nogood: &Nogood, variable: u32, value: u8) -> bool
-    ensures member { result ≡ list_any (λ q. same_pair (record { variable = variable; value = value }) q) nogood.now }
+    ensures member { let p : Pair = record { variable = variable; value = value } in
+        result ≡ list_any (λ q. same_pair p q) nogood.now }
 {
     for i in 0..nogood.len() {
         let (other, other_value) = nogood.pair(i);
@@ -59,7 +62,8 @@ fn has_pair(nogood: &Nogood, variable: u32, value: u8) -> bool
 
 /// Whether the nogood gives the variable no other value.
 fn agrees(nogood: &Nogood, variable: u32, value: u8) -> bool
-    ensures agrees { result ≡ list_all (λ q. compatible (record { variable = variable; value = value }) q) nogood.now }
+    ensures agrees { let p : Pair = record { variable = variable; value = value } in
+        result ≡ list_all (λ q. compatible p q) nogood.now }
 {
     for i in 0..nogood.len() {
         let (other, other_value) = nogood.pair(i);
@@ -72,7 +76,8 @@ fn agrees(nogood: &Nogood, variable: u32, value: u8) -> bool
 
 /// Whether the row gives the variable the value at some place of the scope.
 fn reads(scope: &[u32], row: &[u8], variable: u32, value: u8) -> bool
-    ensures read { result ≡ list_any (λ q. same_pair (record { variable = variable; value = value }) q) (reading scope.now row.now) }
+    ensures read { let p : Pair = record { variable = variable; value = value } in
+        result ≡ list_any (λ q. same_pair p q) (reading scope.now row.now) }
 {
     for (other, other_value) in scope.iter().zip(row) {
         if variable == *other && value == *other_value {
@@ -84,7 +89,8 @@ fn reads(scope: &[u32], row: &[u8], variable: u32, value: u8) -> bool
 
 /// Whether the row gives the variable no other value.
 fn reads_no_other(scope: &[u32], row: &[u8], variable: u32, value: u8) -> bool
-    ensures read { result ≡ list_all (λ q. compatible (record { variable = variable; value = value }) q) (reading scope.now row.now) }
+    ensures read { let p : Pair = record { variable = variable; value = value } in
+        result ≡ list_all (λ q. compatible p q) (reading scope.now row.now) }
 {
     for (other, other_value) in scope.iter().zip(row) {
         if variable == *other && value != *other_value {

@@ -1,60 +1,79 @@
-ghost use Rattle.std.specs.Prelude.{◌≡◌, ℕ, ◌<◌, ◌≤◌, List, [], ◌∷◌, length, drop, take, All, nat_lt, is_some, option_map, IsTrue, OnOk, IfSome, slice_index_or};
-ghost use Rattle.std.specs.List.{list_all};
-ghost use Rattle.pol_defs.specs.Instances.{Fits, IsSolution, constraint_of};
-ghost use Rattle.pol_defs.specs.Relations.{rows_of, relation_of};
-ghost use Rattle.pol_defs.specs.Nogoods.{Basis, reading, cases_of, covered, is_placed, step_fault, ends_empty, log_fault};
-ghost use Rattle.pol_defs.specs.ValidLogs.{no_step, cases_at, value_cases};
-ghost use Rattle.pol_nogood.specs.Faults.{fault_of, why_named};
+ghost use Rattle.std.specs.Prelude.{◌≡◌, ◌<◌, ◌↔◌, [], ◌∷◌, length, drop, take, All};
+ghost use Rattle.std.specs.Prelude.{is_some, IsOk, IsTrue, OnOk, IfErr, IfSome};
+ghost use Rattle.std.specs.Result.{result_err};
+ghost use Rattle.pol_relation.specs.Instances.{Fits, HasNoSolution};
+ghost use Rattle.pol_nogood.specs.Logs.{Basis, step_at, reading, value_cases, cases_of};
 ghost use Rattle.pol_nogood.specs.Steps.{step_named};
+ghost use Rattle.pol_nogood.specs.LogFaults.{covered, is_placed, refer_below, step_fault, ends_empty, log_fault};
+ghost use Rattle.pol_nogood.specs.ValidLogs.{IsValidLog, IsFirstFault};
 
 use crate::cases::{is_ascending, is_case, is_contained, names, pairs_placed};
 use crate::{Log, Nogood, Step};
 use pol_relation::{Instance, Language};
 
-/// Why a log is not valid.
+/// Why a log is not valid, in the order in which the faults of a step are told.
 #[derive(Clone, Copy, Debug, PartialEq, Eq)]
 pub enum Why {
+    /// What the step rests on or a pair of its nogood does not exist, the variables of the pairs do not
+    /// ascend strictly, or a step by a variable names it.
     BadPlace,
+    /// A reference is not to an earlier step.
     BadReference,
+    /// The nogood of a reference is not contained in that of the step joined with the case.
     NotContained,
+    /// There are more or fewer references than cases.
     WrongCount,
+    /// Behind all steps: there is none, or the last nogood is not empty.
     NoEmptyEnd,
 }
 
-/// The first fault of a log: at which step, and what is wrong there.
+/// The first fault of a log: the number of the step, or of steps where the end is wrong, and why.
 #[derive(Clone, Copy, Debug, PartialEq, Eq)]
 pub struct LogFault {
     pub step: u32,
     pub why: Why,
 }
 
-/// Checks that the log shows that the instance has no solution, whoever made it. Takes no memory, and
-/// goes once over the rows of a constraint's relation for each step that rests on the constraint.
+/// Checks that the log shows that the instance has no solution, whoever made it, and answers its first
+/// fault where it does not. Takes no memory, and goes once over the rows of a constraint's relation for
+/// each step that rests on the constraint.
 pub fn check_log(lang: &Language, inst: &Instance, log: &Log) -> Result<(), LogFault>
     requires fits { Fits lang.now inst.now }
-    ensures first_fault { fault_of result ≡ log_fault lang.now inst.now log.now }
-    ensures refuted { OnOk result ((assignment : List ℕ) → IsSolution lang.now inst.now assignment → ⊥) }
+    ensures valid { IsOk result ↔ IsValidLog lang.now inst.now log.now }
+    ensures refuted { OnOk result (HasNoSolution lang.now inst.now) }
+    ensures first { IfErr result (λ fault. IsFirstFault lang.now inst.now log.now fault) }
+    ensures first_fault { result_err result ≡ log_fault lang.now inst.now log.now }
+{
+    match first_fault(lang, inst, log) {
+        None => Ok(()),
+        Some(fault) => Err(fault),
+    }
+}
+
+/// The first fault of the log: of a step, or else of its end.
+fn first_fault(lang: &Language, inst: &Instance, log: &Log) -> Option<LogFault>
+    requires fits { Fits lang.now inst.now }
+    ensures fault { result ≡ log_fault lang.now inst.now log.now }
 {
     for s in 0..log.len() {
         if let Some(why) = step_fault(lang, inst, log, s) {
-            return Err(LogFault { step: s, why });
+            return Some(LogFault { step: s, why });
         }
     }
     if ends_empty(log) {
-        Ok(())
-    } else {
-        Err(LogFault {
-            step: log.len(),
-            why: Why::NoEmptyEnd,
-        })
+        return None;
     }
+    Some(LogFault {
+        step: log.len(),
+        why: Why::NoEmptyEnd,
+    })
 }
 
 /// The first fault of the step with the number `s`, behind those before it.
 fn step_fault(lang: &Language, inst: &Instance, log: &Log, s: u32) -> Option<Why>
     requires fits { Fits lang.now inst.now }
     requires known { s < length log.now }
-    ensures fault { option_map why_named result ≡ step_fault lang.now inst.now (take s log.now) (slice_index_or log.now s no_step) }
+    ensures fault { result ≡ step_fault lang.now inst.now (take s log.now) (step_at log.now s) }
 {
     let step = log.step(s);
     let references = step.references();
@@ -85,7 +104,7 @@ fn is_placed(lang: &Language, inst: &Instance, step: &Step) -> bool
 
 /// Whether each reference is to one of the first `s` steps.
 fn are_earlier(references: &[u32], s: u32) -> bool
-    ensures earlier { result ≡ list_all (λ r. nat_lt r s) references.now }
+    ensures earlier { result ≡ refer_below s references.now }
 {
     references.iter().all(|reference| *reference < s)
 }
@@ -96,8 +115,10 @@ fn covered_cases(lang: &Language, inst: &Instance, log: &Log, step: &Step) -> Op
     requires fits { Fits lang.now inst.now }
     requires placed { IsTrue (is_placed lang.now inst.now (step_named step.now)) }
     requires earlier { All (λ r. r < length log.now) (step_named step.now).references }
-    ensures covered { is_some result ≡ covered log.now (step_named step.now).nogood (cases_of lang.now inst.now (step_named step.now).basis (step_named step.now).nogood) (step_named step.now).references }
-    ensures count { IfSome result (λ cases. cases ≡ length (cases_of lang.now inst.now (step_named step.now).basis (step_named step.now).nogood)) }
+    ensures covered { let s = step_named step.now in
+        is_some result ≡ covered log.now s.nogood (cases_of lang.now inst.now s.basis s.nogood) s.references }
+    ensures count { let s = step_named step.now in
+        IfSome result (λ cases. cases ≡ length (cases_of lang.now inst.now s.basis s.nogood)) }
 {
     match step {
         Step::ByConstraint { c, nogood, refs } => {
@@ -121,8 +142,10 @@ fn covered_rows(
     requires fits { Fits lang.now inst.now }
     requires known { c < length inst.now.constraints }
     requires earlier { All (λ r. r < length log.now) references.now }
-    ensures covered { is_some result ≡ covered log.now nogood.now (cases_at lang.now inst.now c nogood.now) references.now }
-    ensures count { IfSome result (λ cases. cases ≡ length (cases_at lang.now inst.now c nogood.now)) }
+    ensures covered { let cases = cases_of lang.now inst.now (Basis.ByConstraint c) nogood.now in
+        is_some result ≡ covered log.now nogood.now cases references.now }
+    ensures count { IfSome result
+        (λ cases. cases ≡ length (cases_of lang.now inst.now (Basis.ByConstraint c) nogood.now)) }
 {
     let relation = lang.relation(inst.relation_of(c));
     let scope = inst.scope(c);
@@ -148,7 +171,8 @@ fn covered_values(
     references: &[u32],
 ) -> Option<u32>
     requires earlier { All (λ r. r < length log.now) references.now }
-    ensures covered { is_some result ≡ covered log.now nogood.now (value_cases v lang.now.domain) references.now }
+    ensures covered { is_some result
+        ≡ covered log.now nogood.now (value_cases v lang.now.domain) references.now }
     ensures count { IfSome result (λ cases. cases ≡ length (value_cases v lang.now.domain)) }
 {
     let size = lang.domain().size();
@@ -171,7 +195,8 @@ fn is_covered(
     row: &[u8],
 ) -> bool
     requires earlier { All (λ r. r < length log.now) references.now }
-    ensures covered { result ≡ covered log.now nogood.now (reading scope.now row.now ∷ []) (drop number references.now) }
+    ensures covered { result
+        ≡ covered log.now nogood.now (reading scope.now row.now ∷ []) (drop number references.now) }
 {
     match references.get(number as usize) {
         Some(reference) => is_contained(log.step(*reference).nogood(), nogood, scope, row),

@@ -3,10 +3,12 @@
 
 mod cases;
 mod checking;
+mod laws;
 mod log;
 mod nogood;
 
 pub use checking::{LogFault, Why, check_log};
+pub use laws::{fault_laws, log_laws};
 pub use log::{Log, LogAnswer, Step};
 pub use nogood::Nogood;
 

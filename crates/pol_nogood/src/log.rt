@@ -1,4 +1,5 @@
-ghost use Rattle.std.specs.Prelude.{◌≡◌, ◌<◌, ◌≤◌, ◌^◌, [], ◌∷◌, ◌++◌, length, ◌↔◌, IsTrue, OnOk, OnErr, slice_index_or};
+ghost use Rattle.std.specs.Prelude.{◌≡◌, ◌<◌, ◌≤◌, ◌^◌, ◌↔◌, [], ◌∷◌, ◌++◌, length};
+ghost use Rattle.std.specs.Prelude.{IsTrue, OnOk, OnErr, slice_index_or};
 
 use crate::Nogood;
 use pol_base::{NoMemory, Numbers, Values};
@@ -24,6 +25,7 @@ pub enum Step {
 impl Step {
     ghost use Rattle.pol_nogood.specs.Steps.{step_named};
 
+    /// What the step says that no solution holds.
     pub fn nogood(&self) -> &Nogood
         ensures nogood { result.now ≡ (step_named self.now).nogood }
     {
@@ -33,6 +35,7 @@ impl Step {
         }
     }
 
+    /// The numbers of earlier steps, one for each case.
     pub fn references(&self) -> &[u32]
         ensures references { result.now ≡ (step_named self.now).references }
     {
@@ -51,7 +54,7 @@ pub struct Log {
 
 impl Model for Log {
     ghost use Rattle.std.specs.Prelude.{◌≤◌, ◌^◌, List, length};
-    ghost use Rattle.pol_defs.specs.Nogoods.{StepView};
+    ghost use Rattle.pol_nogood.specs.Logs.{StepView};
 
     ghost Value = { List StepView };
 
@@ -70,7 +73,7 @@ pub enum LogAnswer {
 }
 
 impl Log {
-    ghost use Rattle.pol_defs.specs.ValidLogs.{no_step};
+    ghost use Rattle.pol_nogood.specs.Logs.{no_step};
     ghost use Rattle.pol_nogood.specs.Steps.{step_named};
 
     /// The log without steps. Takes no memory.
@@ -100,6 +103,7 @@ impl Log {
         self.steps.len() as u32
     }
 
+    /// Whether there are no steps.
     pub fn is_empty(&self) -> bool
         ensures empty { IsTrue result ↔ (self.now ≡ []) }
     {

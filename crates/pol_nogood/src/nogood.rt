@@ -1,42 +1,28 @@
-ghost use Rattle.std.specs.Prelude.{◌≡◌, ◌<◌, ◌≤◌, ◌↔◌, [], ◌∷◌, ◌++◌, length, take, IsTrue, slice_get, Some};
+ghost use Rattle.std.specs.Prelude.{◌≡◌, ◌<◌, ◌≤◌, ◌↔◌, [], ◌∷◌, ◌++◌, length, IsTrue, slice_get, Some};
 ghost use Rattle.std.specs.Bool.{OnTrue, OnFalse};
-ghost use Rattle.pol_defs.specs.Nogoods.{Pair};
 
 use std::marker::Model;
 
 const MOST_PAIRS: usize = 3;
 
-/// A variable with a value.
-#[derive(Clone, Copy, Debug)]
-struct Paired {
-    variable: u32,
-    value: u8,
-}
-
-impl Model for Paired {
-    ghost Value = { Pair };
-
-    ghost view = { λ p. record { variable = p.variable; value = p.value } };
-
-    ghost inverse = { λ p. record { variable = p.variable; value = p.value } };
-}
-
-/// At most three pairs of a variable and a value, which no solution holds together.
+/// At most three pairs of a variable and a value, which no solution holds together. Takes 16 bytes.
 #[derive(Debug, Drop)]
 pub struct Nogood {
-    pairs: [Paired; MOST_PAIRS],
-    len: usize,
+    variables: [u32; MOST_PAIRS],
+    values: [u8; MOST_PAIRS],
+    len: u8,
 }
 
 impl Model for Nogood {
     ghost use Rattle.std.specs.Prelude.{◌≡◌, ◌≤◌, List, length, take};
-    ghost use Rattle.pol_defs.specs.Nogoods.{Pair};
+    ghost use Rattle.pol_nogood.specs.Nogoods.{Pair};
+    ghost use Rattle.pol_nogood.specs.Logs.{reading};
 
     ghost Value = { List Pair };
 
-    ghost view = { λ n. take n.len n.pairs };
+    ghost view = { λ n. reading (take n.len n.variables) (take n.len n.values) };
 
-    ghost invariant = { λ n. (length n.pairs ≡ 3) × (n.len ≤ 3) };
+    ghost invariant = { λ n. n.len ≤ 3 };
 }
 
 impl Nogood {
@@ -44,12 +30,9 @@ impl Nogood {
     pub fn new() -> Nogood
         ensures empty { result ≡ [] }
     {
-        let nothing = Paired {
-            variable: 0,
-            value: 0,
-        };
         Nogood {
-            pairs: [nothing; MOST_PAIRS],
+            variables: [0; MOST_PAIRS],
+            values: [0; MOST_PAIRS],
             len: 0,
         }
     }
@@ -60,10 +43,12 @@ impl Nogood {
         ensures pair { OnTrue result (self.new ≡ self.old ++ record { variable = variable; value = value } ∷ []) }
         ensures full { OnFalse result (self.new ≡ self.old) }
     {
-        if self.len == MOST_PAIRS {
+        let place = self.len as usize;
+        if place == MOST_PAIRS {
             return false;
         }
-        self.pairs[self.len] = Paired { variable, value };
+        self.variables[place] = variable;
+        self.values[place] = value;
         self.len += 1;
         true
     }
@@ -73,9 +58,10 @@ impl Nogood {
         ensures pairs { result ≡ length self.now }
         ensures few { result ≤ 3 }
     {
-        self.len as u32
+        u32::from(self.len)
     }
 
+    /// Whether there are no pairs.
     pub fn is_empty(&self) -> bool
         ensures empty { IsTrue result ↔ (self.now ≡ []) }
     {
@@ -87,7 +73,6 @@ impl Nogood {
         requires known { i < length self.now }
         ensures pair { slice_get self.now i ≡ Some (record { variable = result.0; value = result.1 }) }
     {
-        let paired = &self.pairs[i as usize];
-        (paired.variable, paired.value)
+        (self.variables[i as usize], self.values[i as usize])
     }
 }

@@ -4,6 +4,7 @@ use crate::{Log, LogFault, Nogood, Step, Why, check_log};
 use pol_base::{Domain, NoMemory, Numbers};
 use pol_relation::{Instance, Language, Relation};
 use std::alloc::Global;
+use std::mem::size_of;
 use std::process::Abort;
 use std::test::Fail;
 
@@ -125,6 +126,12 @@ fn a_log_ends_with_the_empty_nogood(rt: HostRuntime) -> Result<(), Fail> {
 fn two_constraints_are_not_refuted_by_the_log(rt: HostRuntime) -> Result<(), Fail> {
     let answer = checked(&rt, rt.alloc(), 2, triangle(), &[], &[])?;
     assert_eq!(rt; answer, fault(4, Why::BadPlace));
+    Ok(())
+}
+
+#[test]
+fn a_nogood_takes_16_bytes(rt: HostRuntime) -> Result<(), Fail> {
+    assert_eq!(rt; size_of::<Nogood>(), 16);
     Ok(())
 }
 

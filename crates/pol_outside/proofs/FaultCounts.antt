@@ -31,22 +31,28 @@ never_falls failing calls =
     by_test (fails_at failing calls) refl
 
 -- a call that fails by its number is counted
-pub counted_fault : {A E : Type 0} (failing : List ℕ) (calls next : ℕ) (error : E) → next ≡ one_more calls → fails_at failing calls ≡ true
-    → HasCause {A = A} (fault_count failing calls) (fault_count failing next) (Err error)
+pub counted_fault : {A E : Type 0} (failing : List ℕ) (calls next : ℕ) (error : E) → next ≡ one_more calls
+    → fails_at failing calls ≡ true → HasCause {A = A} (fault_count failing calls) (fault_count failing next) (Err error)
 counted_fault failing calls next error following fails =
     let below = fails_below failing calls fails in
     let same : next ≡ suc calls = omega arith in
     rw same (record {
       later = never_falls failing calls;
       failed = omega (arith, counts_failing failing calls fails);
+      succeeded = tt;
     })
 
--- a call that does not fail leaves a count that has not fallen
-pub kept_count : {A E : Type 0} (failing : List ℕ) (calls next : ℕ) (answer : A) → next ≡ one_more calls → calls < 2 ^ 64
+-- a call that does not fail by its number leaves the count where it stood
+pub kept_count : {A E : Type 0} (failing : List ℕ) (calls next : ℕ) (answer : A) → next ≡ one_more calls
+    → calls < 2 ^ 64 → fails_at failing calls ≡ false
     → HasCause {E = E} (fault_count failing calls) (fault_count failing next) (Ok answer)
-kept_count failing calls next answer following fits =
+kept_count failing calls next answer following fits passes =
     let either : (next ≡ suc calls) ⊎ (next ≡ calls) = grind arith in
     elim either [
-      | inl further ↦ rw further (record { later = never_falls failing calls; failed = tt })
-      | inr still ↦ rw still (record { later = omega arith; failed = tt })
+      | inl further ↦ rw further (record {
+        later = never_falls failing calls;
+        failed = tt;
+        succeeded = counts_other failing calls passes;
+      })
+      | inr still ↦ rw still (record { later = omega arith; failed = tt; succeeded = refl })
     ]

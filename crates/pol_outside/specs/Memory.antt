@@ -1,8 +1,8 @@
 -- Sources and sinks in memory, whose calls are numbered from 0 and fail by a list of numbers.
-use Rattle.std.specs.Prelude.{ℕ, zero, suc, ◌^◌, List, Bool, Result, Ok, Err, if◌then◌else◌, ◌&&◌, ◌==◌, nat_lt}
+use Rattle.std.specs.Prelude.{ℕ, zero, suc, ◌^◌, List, Bool, if◌then◌else◌, ◌&&◌, ◌==◌, nat_lt}
 use Rattle.std.specs.List.{list_any}
-use Rattle.pol_outside.specs.Faults.{one_more}
 
+-- what is left of the bytes, how many a call gives at most, which calls fail, and how many there were
 pub record SourceView : Type 0 where
   pub left : List ℕ
   pub chunk : ℕ
@@ -14,6 +14,7 @@ pub record CalmView : Type 0 where
   pub left : List ℕ
   pub chunk : ℕ
 
+-- the bytes it holds, the room for more, how many a call takes at most, which calls fail, and how many there were
 pub record SinkView : Type 0 where
   pub bytes : List ℕ
   pub room : ℕ
@@ -29,9 +30,5 @@ fails_at failing number = nat_lt number (2 ^ 32) && list_any (λ k. k == number)
 -- how many of the first calls have a number in the list
 abbrev pub fault_count : List ℕ → ℕ → ℕ
 fault_count failing zero = 0
-fault_count failing (suc calls) = if fails_at failing calls then suc (fault_count failing calls) else fault_count failing calls
-
--- a count of faults behind a call
-abbrev pub faults_after : {A E : Type 0} → Result A E → ℕ → ℕ
-faults_after (Ok _) faults = faults
-faults_after (Err _) faults = one_more faults
+fault_count failing (suc calls) =
+    if fails_at failing calls then suc (fault_count failing calls) else fault_count failing calls

@@ -1,5 +1,7 @@
-ghost use Rattle.std.specs.Prelude.{◌≡◌, ℕ, None};
-ghost use Rattle.pol_outside.specs.Faults.{HasCause};
+ghost use Rattle.std.specs.Prelude.{◌≡◌, ℕ, ◌<◌, None, length, IfOk};
+ghost use Rattle.std.specs.Io.{ReadsAtMost, WritesAtMost};
+ghost use Rattle.std.specs.Io.KnownBytes.{Keeps, ReadConsumes, WriteAppends};
+ghost use Rattle.pol_outside.specs.Faults.{HasCause, faults_after};
 ghost use Rattle.pol_outside.specs.Adapters.{Counted};
 
 use crate::streams::count_fault;
@@ -7,7 +9,8 @@ use crate::{Failed, Sink, Source};
 use std::io::{Read, Write};
 use std::marker::Model;
 
-/// A source over any reader. Which bytes the reader gives, and where it fails, is not told.
+/// A source over any reader. It tells nothing of what is left, but where the reader tells what remains, its
+/// reads say what they took of that. A read that the reader fails is a fault.
 #[derive(Debug, Drop)]
 pub struct ReaderSource<R> {
     reader: R,
@@ -34,7 +37,13 @@ impl<R: Read> Source for ReaderSource<R> {
 
     ghost faults = { λ s. s.faults };
 
-    fn read(&mut self, into: &mut [u8]) -> Result<usize, Failed> {
+    fn read(&mut self, into: &mut [u8]) -> Result<usize, Failed>
+        ensures bound { ReadsAtMost result into.new }
+        ensures bytes { ReadConsumes None None result into.new }
+        ensures cause { HasCause self.old.faults self.new.faults result }
+        ensures stream { ReadConsumes (R.remaining self.old.stream) (R.remaining self.new.stream) result into.new }
+        ensures count { self.new.faults ≡ faults_after result self.old.faults }
+    {
         match self.reader.read(into) {
             Ok(count) => Ok(count),
             Err(_) => Err(count_fault(&mut self.faults)),
@@ -42,7 +51,9 @@ impl<R: Read> Source for ReaderSource<R> {
     }
 }
 
-/// A sink over any writer. What the writer holds, and where it fails, is not told.
+/// A sink over any writer. It tells nothing of what was written, but where the writer tells what it holds, its
+/// writes say what they added to that. A write that the writer fails is a fault, and so is one that takes none
+/// of some bytes.
 #[derive(Debug, Drop)]
 pub struct WriterSink<W> {
     writer: W,
@@ -63,9 +74,11 @@ impl<W: Write> WriterSink<W> {
         WriterSink { writer, faults: 0 }
     }
 
-    /// Flushes the writer. Call it once all is written.
+    /// Flushes the writer, and answers `Failed` where that fails. Call it once all is written.
     pub fn finish(&mut self) -> Result<(), Failed>
         ensures cause { HasCause self.old.faults self.new.faults result }
+        ensures stream { Keeps (W.contents self.old.stream) (W.contents self.new.stream) }
+        ensures count { self.new.faults ≡ faults_after result self.old.faults }
     {
         match self.writer.flush() {
             Ok(()) => Ok(()),
@@ -80,7 +93,14 @@ impl<W: Write> Sink for WriterSink<W> {
     ghost faults = { λ s. s.faults };
 
     // a writer that takes none of some bytes would be asked for ever
-    fn write(&mut self, piece: &[u8]) -> Result<usize, Failed> {
+    fn write(&mut self, piece: &[u8]) -> Result<usize, Failed>
+        ensures bound { WritesAtMost result piece.now }
+        ensures moves { IfOk result (λ n. 0 < length piece.now → 0 < n) }
+        ensures bytes { WriteAppends None None result piece.now }
+        ensures cause { HasCause self.old.faults self.new.faults result }
+        ensures stream { WriteAppends (W.contents self.old.stream) (W.contents self.new.stream) result piece.now }
+        ensures count { self.new.faults ≡ faults_after result self.old.faults }
+    {
         match self.writer.write(piece) {
             Ok(count) if count > 0 || piece.is_empty() => Ok(count),
             _ => Err(count_fault(&mut self.faults)),

@@ -1,8 +1,8 @@
 ghost use Rattle.std.specs.Prelude.{◌≡◌, ℕ, ◌+◌, ◌-◌, ◌<◌, ◌≤◌, ◌⊎◌, ◌↔◌, min, Some, List, [], length, IfOk, IsErr, IsTrue, vec_len, vec_capacity};
 ghost use Rattle.std.specs.Io.{ReadsAtMost, WritesAtMost};
 ghost use Rattle.std.specs.Io.KnownBytes.{ReadConsumes, WriteAppends};
-ghost use Rattle.pol_outside.specs.Faults.{HasCause, one_more};
-ghost use Rattle.pol_outside.specs.Memory.{SourceView, SinkView, fails_at, fault_count, faults_after};
+ghost use Rattle.pol_outside.specs.Faults.{HasCause, one_more, faults_after};
+ghost use Rattle.pol_outside.specs.Memory.{SourceView, SinkView, fails_at, fault_count};
 
 use crate::streams::count_fault;
 use crate::{Failed, Sink, Source};
@@ -50,7 +50,8 @@ impl<'a> Source for MemorySource<'a> {
     fn read(&mut self, into: &mut [u8]) -> Result<usize, Failed>
         ensures bound { ReadsAtMost result into.new }
         ensures bytes { ReadConsumes (Some self.old.left) (Some self.new.left) result into.new }
-        ensures cause { HasCause (fault_count self.old.failing self.old.calls) (fault_count self.new.failing self.new.calls) result }
+        ensures cause { HasCause (fault_count self.old.failing self.old.calls)
+            (fault_count self.new.failing self.new.calls) result }
         ensures fails { IsErr result ↔ IsTrue (fails_at self.old.failing self.old.calls) }
         ensures gives { IfOk result (λ n. n ≡ min self.old.chunk (min (length into.new) (length self.old.left))) }
         ensures number { self.new.calls ≡ one_more self.old.calls }
@@ -83,7 +84,14 @@ pub struct MemorySink<'a> {
 impl<'a> Model for MemorySink<'a> {
     ghost Value = { SinkView };
 
-    ghost view = { λ s. record { bytes = s.bytes.items; room = s.room; chunk = s.chunk; failing = s.failing.now; calls = s.calls; faults = s.faults } };
+    ghost view = { λ s. record {
+      bytes = s.bytes.items;
+      room = s.room;
+      chunk = s.chunk;
+      failing = s.failing.now;
+      calls = s.calls;
+      faults = s.faults;
+    } };
 
     ghost invariant = { λ s. (0 < s.chunk) × (vec_len s.bytes + s.room ≤ vec_capacity s.bytes) };
 }
@@ -98,7 +106,14 @@ impl<'a> MemorySink<'a> {
         failing: &'a [u32],
     ) -> Result<MemorySink<'a>, NoMemory>
         requires chunk { 1 ≤ chunk }
-        ensures made { IfOk result (λ sink. sink ≡ record { bytes = []; room = room; chunk = chunk; failing = failing.now; calls = 0; faults = 0 }) }
+        ensures made { IfOk result (λ sink. sink ≡ record {
+          bytes = [];
+          room = room;
+          chunk = chunk;
+          failing = failing.now;
+          calls = 0;
+          faults = 0;
+        }) }
     {
         Ok(MemorySink {
             bytes: Vec::with_capacity(alloc, room)?,
@@ -128,7 +143,9 @@ impl<'a> Sink for MemorySink<'a> {
         ensures moves { IfOk result (λ n. 0 < length piece.now → 0 < n) }
         ensures bytes { WriteAppends (Some self.old.bytes) (Some self.new.bytes) result piece.now }
         ensures cause { HasCause self.old.faults self.new.faults result }
-        ensures fails { IsErr result ↔ ((0 < length piece.now) × ((self.old.room ≡ 0) ⊎ IsTrue (fails_at self.old.failing self.old.calls))) }
+        ensures fails { IsErr result
+            ↔ ((0 < length piece.now)
+            × ((self.old.room ≡ 0) ⊎ IsTrue (fails_at self.old.failing self.old.calls))) }
         ensures takes { IfOk result (λ n. n ≡ min self.old.chunk (min (length piece.now) self.old.room)) }
         ensures room { self.new.room + length self.new.bytes ≡ self.old.room + length self.old.bytes }
         ensures count { self.new.faults ≡ faults_after result self.old.faults }

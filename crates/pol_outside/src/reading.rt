@@ -36,9 +36,13 @@ pub fn read_all<S: Source>(alloc: Global, source: &mut S, limit: u64) -> Result<
     ensures within { IfOk result (λ taken. length taken ≤ limit) }
     ensures later { S.faults source.old ≤ S.faults source.new }
     ensures read_fault { IsErrOf result TakeFault.ReadFault → Rose (S.faults source.old) (S.faults source.new) }
-    ensures taken { IsErrOf result TakeFault.ReadFault → TakesAtMost (S.left source.old) (S.left source.new) limit }
-    ensures too_long { IsErrOf result TakeFault.TooLong → Takes (S.left source.old) (S.left source.new) (limit + 1) }
-    ensures no_memory { IsErrOf result TakeFault.NoMemory → TakesAtMost (S.left source.old) (S.left source.new) (limit + 1) }
+    ensures taken { IsErrOf result TakeFault.ReadFault
+        → TakesAtMost (S.left source.old) (S.left source.new) limit }
+    ensures too_long { IsErrOf result TakeFault.TooLong
+        → Takes (S.left source.old) (S.left source.new) (limit + 1) }
+    ensures no_memory { IsErrOf result TakeFault.NoMemory
+        → TakesAtMost (S.left source.old) (S.left source.new) (limit + 1) }
+    ensures calm { ¬ IsErrOf result TakeFault.ReadFault → S.faults source.new ≡ S.faults source.old }
 {
     let mut taken = Values::new(alloc);
     loop {
@@ -52,13 +56,18 @@ pub fn read_all<S: Source>(alloc: Global, source: &mut S, limit: u64) -> Result<
 fn take_more<S: Source>(source: &mut S, taken: &mut Values, limit: u64) -> Result<usize, TakeFault>
     requires limit { limit ≤ 2 ^ 28 }
     requires held { length taken.old ≤ limit }
-    ensures bytes { IfOk result (λ n. (more : List ℕ) × Consumes (S.left source.old) (S.left source.new) more × (length more ≡ n) × (taken.new ≡ taken.old ++ more)) }
+    ensures bytes { IfOk result (λ n. (more : List ℕ) × Consumes (S.left source.old) (S.left source.new) more
+        × (length more ≡ n) × (taken.new ≡ taken.old ++ more)) }
     ensures end { IfOk result (λ n. n ≡ 0 → IsAtEnd (S.left source.new)) }
     ensures within { OnOk result (length taken.new ≤ limit) }
     ensures later { S.faults source.old ≤ S.faults source.new }
-    ensures read_fault { IsErrOf result TakeFault.ReadFault → Rose (S.faults source.old) (S.faults source.new) × Takes (S.left source.old) (S.left source.new) 0 }
-    ensures too_long { IsErrOf result TakeFault.TooLong → Takes (S.left source.old) (S.left source.new) (limit + 1 - length taken.old) }
-    ensures no_memory { IsErrOf result TakeFault.NoMemory → TakesAtMost (S.left source.old) (S.left source.new) (limit - length taken.old) }
+    ensures read_fault { IsErrOf result TakeFault.ReadFault → Rose (S.faults source.old) (S.faults source.new) }
+    ensures none_taken { IsErrOf result TakeFault.ReadFault → Takes (S.left source.old) (S.left source.new) 0 }
+    ensures too_long { IsErrOf result TakeFault.TooLong
+        → Takes (S.left source.old) (S.left source.new) (limit + 1 - length taken.old) }
+    ensures no_memory { IsErrOf result TakeFault.NoMemory
+        → TakesAtMost (S.left source.old) (S.left source.new) (limit - length taken.old) }
+    ensures calm { ¬ IsErrOf result TakeFault.ReadFault → S.faults source.new ≡ S.faults source.old }
 {
     let room = limit as usize - taken.as_slice().len();
     let mut buffer = [0u8; PIECE];

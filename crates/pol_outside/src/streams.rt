@@ -11,7 +11,7 @@ pub struct Failed;
 pub trait Source {
     // what is left, where the source tells it
     ghost left: { Self → Option (List ℕ) };
-    // a count that never falls
+    // a count that never falls, and rises at each read that fails and at no other
     ghost faults: { Self → ℕ };
 
     /// Puts some of what is left at the front of the buffer and answers how many bytes those are.
@@ -26,7 +26,7 @@ pub trait Source {
 pub trait Sink {
     // what was written, where the sink tells it
     ghost written: { Self → Option (List ℕ) };
-    // a count that never falls
+    // a count that never falls, and rises at each write that fails and at no other
     ghost faults: { Self → ℕ };
 
     /// Takes some bytes from the front of the piece and answers how many those are.

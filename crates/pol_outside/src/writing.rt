@@ -1,4 +1,4 @@
-ghost use Rattle.std.specs.Prelude.{◌≤◌, OnOk, OnErr};
+ghost use Rattle.std.specs.Prelude.{◌≡◌, ◌≤◌, OnOk, OnErr};
 ghost use Rattle.std.specs.Io.KnownBytes.{Appends};
 ghost use Rattle.pol_outside.specs.Contents.{AppendsFront};
 ghost use Rattle.pol_outside.specs.Faults.{Rose};
@@ -15,6 +15,7 @@ pub fn write_all<O: Sink>(sink: &mut O, bytes: &[u8]) -> Result<(), WriteFault>
     ensures front { AppendsFront (O.written sink.old) (O.written sink.new) bytes.now }
     ensures later { O.faults sink.old ≤ O.faults sink.new }
     ensures write_fault { OnErr result (Rose (O.faults sink.old) (O.faults sink.new)) }
+    ensures calm { OnOk result (O.faults sink.new ≡ O.faults sink.old) }
 {
     let mut rest = bytes;
     while !rest.is_empty() {

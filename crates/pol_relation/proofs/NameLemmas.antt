@@ -9,17 +9,17 @@ use Rattle.std.proofs.lemmas.List.Elements.{Contains-append_right}
 use Rattle.std.proofs.lemmas.Map.Made.{Contains-tail}
 use Rattle.indexmap.specs.IndexMap.{IndexMap, insert_entry, set_value_at}
 use Rattle.indexmap.proofs.CallerLemmas.{insert_entry-new}
-use Rattle.pol_defs.specs.Relations.{RelationView, no_relation, IsLanguage, last_of, with_row_at_last}
-use Rattle.pol_defs.specs.Tuples.{IsTuple}
-use Rattle.pol_defs.proofs.RelationLemmas.{relation_with_row, IsLanguage-with_last_row}
-use Rattle.pol_relation.specs.Named.{named_relations}
+use Rattle.pol_relation.specs.Relations.{RelationView, IsLanguage, last_of, with_row_at_last, with_row_in, no_named}
+use Rattle.pol_base.specs.Tuples.{IsTuple}
+use Rattle.pol_relation.proofs.RelationLemmas.{IsLanguage-with_last_row}
+use Rattle.pol_relation.specs.Named.{named_entry, named_relations}
 
 -- the names of the entries
 abbrev pub names : {A : Type 0} → List (Vec ℕ A × RelationView) → List (List ℕ)
-names entries = map (λ e. e.0) (named_relations entries)
+names entries = map (λ e. e.name) (named_relations entries)
 
 -- the relation at a place
-pub relation-at : {A : Type 0} (entries : List (Vec ℕ A × RelationView)) (i : ℕ) (r : RelationView) → slice_get (map (λ e. e.1) entries) i ≡ Some r → (get_or (named_relations entries) i ([], no_relation)).1 ≡ r
+pub relation-at : {A : Type 0} (entries : List (Vec ℕ A × RelationView)) (i : ℕ) (r : RelationView) → slice_get (map (λ e. e.1) entries) i ≡ Some r → (get_or (named_relations entries) i no_named).relation ≡ r
 relation-at [] i r found = cc
 relation-at (e ∷ es) zero r found = cc
 relation-at (e ∷ es) (suc i) r found = relation-at es i r found
@@ -27,26 +27,26 @@ relation-at (e ∷ es) (suc i) r found = relation-at es i r found
 -- the relation that was added last
 pub last_of-named : {A : Type 0} (d : ℕ) (entries : List (Vec ℕ A × RelationView)) (r : RelationView) → slice_get (map (λ e. e.1) entries) (length entries - 1) ≡ Some r → last_of (record { domain = d; relations = named_relations entries }) ≡ r
 last_of-named d entries r found =
-    let long : length (named_relations entries) ≡ length entries = length-map entries (λ e. (e.0.items, e.1)) in
+    let long : length (named_relations entries) ≡ length entries = length-map entries (λ e. named_entry e) in
     rw long (relation-at entries (length entries - 1) r found)
 
 module _ {A : Type 0} where
   -- the last relation takes the tuple
-  pub named_relations-last : (t : List ℕ) (entries : List (Vec ℕ A × RelationView)) (i : ℕ) (r : RelationView) → length entries ≡ suc i → slice_get (map (λ e. e.1) entries) i ≡ Some r → named_relations (set_value_at entries i (relation_with_row r t)) ≡ with_row_at_last t (named_relations entries)
+  pub named_relations-last : (t : List ℕ) (entries : List (Vec ℕ A × RelationView)) (i : ℕ) (r : RelationView) → length entries ≡ suc i → slice_get (map (λ e. e.1) entries) i ≡ Some r → named_relations (set_value_at entries i (with_row_in r t)) ≡ with_row_at_last t (named_relations entries)
   named_relations-last t [] i r long found = cc
-  named_relations-last t (e ∷ []) zero r long found = let same : e.1 ≡ r = cc in (λ j. (e.0.items, relation_with_row (sym same j) t) ∷ [])
+  named_relations-last t (e ∷ []) zero r long found = let same : e.1 ≡ r = cc in (λ j. record { name = e.0.items; relation = with_row_in (sym same j) t } ∷ [])
   named_relations-last t (e ∷ []) (suc i) r long found = cc
   named_relations-last t (e ∷ f ∷ rest) zero r long found = absurd (omega arith)
-  named_relations-last t (e ∷ f ∷ rest) (suc i) r long found = ap (λ named. (e.0.items, e.1) ∷ named) (named_relations-last t (f ∷ rest) i r (omega arith) found)
+  named_relations-last t (e ∷ f ∷ rest) (suc i) r long found = ap (λ named. named_entry e ∷ named) (named_relations-last t (f ∷ rest) i r (omega arith) found)
 
   -- a relation that stays
   pub named_relations-kept : (entries : List (Vec ℕ A × RelationView)) (i : ℕ) (r : RelationView) → slice_get (map (λ e. e.1) entries) i ≡ Some r → named_relations (set_value_at entries i r) ≡ named_relations entries
   named_relations-kept [] i r found = refl
-  named_relations-kept (e ∷ es) zero r found = let same : e.1 ≡ r = cc in (λ j. (e.0.items, sym same j) ∷ named_relations es)
-  named_relations-kept (e ∷ es) (suc i) r found = ap (λ named. (e.0.items, e.1) ∷ named) (named_relations-kept es i r found)
+  named_relations-kept (e ∷ es) zero r found = let same : e.1 ≡ r = cc in (λ j. record { name = e.0.items; relation = sym same j } ∷ named_relations es)
+  named_relations-kept (e ∷ es) (suc i) r found = ap (λ named. named_entry e ∷ named) (named_relations-kept es i r found)
 
   -- the last relation took the tuple, or stayed for want of memory
-  pub IsLanguage-last : {T E : Type 0} (d : ℕ) (t : List ℕ) (entries : List (Vec ℕ A × RelationView)) (i : ℕ) (r new : RelationView) (result : Result T E) → length entries ≡ suc i → slice_get (map (λ e. e.1) entries) i ≡ Some r → OnOk result (new ≡ relation_with_row r t) → OnErr result (new ≡ r) → IsTuple r.domain r.arity t → IsLanguage (record { domain = d; relations = named_relations entries }) → IsLanguage (record { domain = d; relations = named_relations (set_value_at entries i new) })
+  pub IsLanguage-last : {T E : Type 0} (d : ℕ) (t : List ℕ) (entries : List (Vec ℕ A × RelationView)) (i : ℕ) (r new : RelationView) (result : Result T E) → length entries ≡ suc i → slice_get (map (λ e. e.1) entries) i ≡ Some r → OnOk result (new ≡ with_row_in r t) → OnErr result (new ≡ r) → IsTuple r.domain r.arity t → IsLanguage (record { domain = d; relations = named_relations entries }) → IsLanguage (record { domain = d; relations = named_relations (set_value_at entries i new) })
   IsLanguage-last d t entries i r new (Ok x) long found ok err tuple is =
       let last = last_of-named d entries r (subst (λ k. slice_get (map (λ e. e.1) entries) k ≡ Some r) (omega arith) found) in
       let named : named_relations (set_value_at entries i new) ≡ with_row_at_last t (named_relations entries) = ap (λ s. named_relations (set_value_at entries i s)) ok ∙ named_relations-last t entries i r long found in
@@ -61,14 +61,14 @@ module _ {A : Type 0} (name : List ℕ) where
   is_named key = pointwise nat_eq name key.items
 
   -- the place that is found has the name
-  pub name-at_position : (entries : List (Vec ℕ A × RelationView)) (i : ℕ) → position is_named (keys_of entries) ≡ Some i → (get_or (named_relations entries) i ([], no_relation)).0 ≡ name
+  pub name-at_position : (entries : List (Vec ℕ A × RelationView)) (i : ℕ) → position is_named (keys_of entries) ≡ Some i → (get_or (named_relations entries) i no_named).name ≡ name
   name-at_position [] i found = cc
   name-at_position (x ∷ xs) i found =
       let at = position-Some is_named (keys_of (x ∷ xs)) i x.0 found in
       let within : i < length (x ∷ xs) = omega (arith, at.0, length-map (x ∷ xs) (λ e. e.0)) in
       let key : get_or (keys_of (x ∷ xs)) i x.0 ≡ (get_or (x ∷ xs) i x).0 = get_or-map (λ e. e.0) (x ∷ xs) i x x.0 within in
-      let named : get_or (named_relations (x ∷ xs)) i ([], no_relation) ≡ ((get_or (x ∷ xs) i x).0.items, (get_or (x ∷ xs) i x).1) = get_or-map (λ e. (e.0.items, e.1)) (x ∷ xs) i x ([], no_relation) within in
-      (λ j. (named j).0) ∙ sym (same_text name _ (sym (subst (λ k. pointwise nat_eq name k.items ≡ true) key at.1)))
+      let named : get_or (named_relations (x ∷ xs)) i no_named ≡ named_entry (get_or (x ∷ xs) i x) = get_or-map (λ e. named_entry e) (x ∷ xs) i x no_named within in
+      (λ j. (named j).name) ∙ sym (same_text name _ (sym (subst (λ k. pointwise nat_eq name k.items ≡ true) key at.1)))
 
   -- a name that is looked up is there
   pub Contains-from_lookup : (entries : List (Vec ℕ A × RelationView)) → is_some (lookup is_named entries) ≡ true → Contains (names entries) name
@@ -105,6 +105,6 @@ abbrev pub same_key : {A : Type 0} → Vec ℕ A → Vec ℕ A → Bool
 same_key key other = pointwise nat_eq key.items other.items
 
 -- a new name goes last
-pub named_relations-insert : {A S : Type 0} (m : IndexMap (Vec ℕ A) RelationView S) (key : Vec ℕ A) (r : RelationView) → (Contains (names m.entries) key.items → ⊥) → named_relations (insert_entry same_key m.entries key r) ≡ named_relations m.entries ++ (key.items, r) ∷ []
+pub named_relations-insert : {A S : Type 0} (m : IndexMap (Vec ℕ A) RelationView S) (key : Vec ℕ A) (r : RelationView) → (Contains (names m.entries) key.items → ⊥) → named_relations (insert_entry same_key m.entries key r) ≡ named_relations m.entries ++ record { name = key.items; relation = r } ∷ []
 named_relations-insert m key r new =
-    ap named_relations (insert_entry-new same_key m key r (lookup-new key.items m.entries new)) ∙ map-append (λ e. (e.0.items, e.1)) m.entries ((key, r) ∷ [])
+    ap named_relations (insert_entry-new same_key m key r (lookup-new key.items m.entries new)) ∙ map-append (λ e. named_entry e) m.entries ((key, r) ∷ [])

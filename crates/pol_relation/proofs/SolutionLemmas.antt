@@ -2,8 +2,8 @@
 use Rattle.std.proofs.Common.{◌≡◌, ℕ, ◌+◌, ◌<◌, List, ◌++◌, [], ◌∷◌, length, take, set, get_or, All, sym, ap, ◌∙◌, arith}
 use Rattle.std.proofs.lemmas.List.{length-map, map_push, take_more, take_more_set, take_all}
 use Rattle.std.proofs.lemmas.List.Elements.{All-get_or, All-map}
-use Rattle.pol_defs.specs.Tuples.{IsTuple}
-use Rattle.pol_defs.specs.Instances.{read_at}
+use Rattle.pol_base.specs.Tuples.{IsTuple}
+use Rattle.pol_relation.specs.Instances.{read_at}
 
 -- what is read is a tuple of the domain
 pub IsTuple-read_at : (d n arity : ℕ) (assignment scope : List ℕ) → IsTuple d n assignment → All (λ x. x < n) scope → length scope ≡ arity → IsTuple d arity (read_at assignment scope)

@@ -3,10 +3,10 @@ use Rattle.std.proofs.Common.{◌≡◌, ℕ, zero, suc, ◌+◌, ◌-◌, ◌*�
 use Rattle.std.proofs.lemmas.Nat.{div-add-mod', div-mul-add, mod-mul-add, le-div, div_below, mod_below}
 use Rattle.std.proofs.lemmas.List.{length-take-le, length-drop}
 use Rattle.std.proofs.lemmas.List.Elements.{All-take, All-drop}
-use Rattle.pol_defs.specs.Tuples.{IsTuple}
-use Rattle.pol_defs.specs.Relations.{RelationView, IsRelation, with_row, tuples_in, SameMembers}
-use Rattle.pol_defs.proofs.MemberLemmas.{Contains-here, Contains-there, Contains-cons_cases, Contains-nil}
-use Rattle.pol_defs.proofs.RelationLemmas.{AreLong, AreLong-tuples, relation_with_row, IsRelation-with_row, Contains-with_row, Contains-with_row_old, with_row-cases}
+use Rattle.pol_base.specs.Tuples.{IsTuple}
+use Rattle.pol_relation.specs.Relations.{RelationView, IsRelation, with_row, tuples_in, SameMembers, with_row_in}
+use Rattle.pol_base.proofs.MemberLemmas.{Contains-here, Contains-there, Contains-cons_cases, Contains-nil}
+use Rattle.pol_relation.proofs.RelationLemmas.{AreLong, AreLong-tuples, IsRelation-with_row, Contains-with_row, Contains-with_row_old, with_row-cases}
 
 -- the rows and the tuples that are left are all the tuples
 pub record AreRead (rows left all : List (List ℕ)) : Type 0 where
@@ -85,7 +85,7 @@ pub record IsReading (d n : ℕ) (relation : RelationView) (rest : List ℕ) (al
   pub below : All (λ v. v < d) rest
   pub read : AreRead relation.rows (tuples_in n (length rest / n) rest) all
 
-pub IsReading-more : (d n : ℕ) (relation : RelationView) (rest : List ℕ) (all : List (List ℕ)) → 1 ≤ n → 0 < length rest → IsReading d n relation rest all → IsReading d n (relation_with_row relation (take n rest)) (drop n rest) all
+pub IsReading-more : (d n : ℕ) (relation : RelationView) (rest : List ℕ) (all : List (List ℕ)) → 1 ≤ n → 0 < length rest → IsReading d n relation rest all → IsReading d n (with_row_in relation (take n rest)) (drop n rest) all
 IsReading-more d n relation rest all some more reading =
     let inside = le-whole (length rest) n more some reading.whole in
     let tuple = IsTuple-take d n rest inside reading.below in

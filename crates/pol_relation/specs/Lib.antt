@@ -1,1 +1,4 @@
 pub mod Named
+pub mod Weights
+pub mod Instances
+pub mod Relations

@@ -1,5 +1,6 @@
 ghost use Rattle.std.specs.Prelude.{◌≡◌, ℕ, ◌<◌, ◌≤◌, ◌↔◌, ◌++◌, List, [], ◌∷◌, length, All, Contains, IfOk, IfSome, IfNone, OnOk, OnErr, IsErrOf, IsTrue, slice_index_or};
-ghost use Rattle.pol_defs.specs.Instances.{ConstraintView, InstanceView, IsInstance, FitsAt, Fits, constraint_of, with_variable, with_constraint};
+ghost use Rattle.pol_base.specs.Lists.{place_in};
+ghost use Rattle.pol_relation.specs.Instances.{ConstraintView, InstanceView, IsInstance, FitsAt, Fits, constraint_of, with_variable, with_constraint};
 
 use crate::{AddFault, Language};
 use pol_base::{NoMemory, Values};
@@ -34,9 +35,13 @@ pub struct Instance {
 impl Model for Instance {
     ghost Value = { InstanceView };
 
-    ghost view = { λ i. record { name = i.name; variables = i.variables.items; constraints = i.constraints.items } };
+    ghost view = { λ i.
+        record { name = i.name; variables = i.variables.items; constraints = i.constraints.items } };
 
-    ghost invariant = { λ i. IsInstance (record { name = i.name; variables = i.variables.items; constraints = i.constraints.items }) × (length i.variables.items ≤ 4096) × (length i.constraints.items ≤ 4096) };
+    ghost invariant = { λ i.
+        IsInstance (record { name = i.name; variables = i.variables.items; constraints = i.constraints.items })
+        × (length i.variables.items ≤ 4096)
+        × (length i.constraints.items ≤ 4096) };
 }
 
 impl Instance {
@@ -70,7 +75,7 @@ impl Instance {
     /// Adds a variable with a name that is not there.
     fn push_variable(&mut self, name: &[u8]) -> Result<(), NoMemory>
         requires room { length self.old.variables < 4096 }
-        requires new { Contains self.old.variables name.now → ⊥ }
+        requires new { ¬ Contains self.old.variables name.now }
         ensures ok { OnOk result (self.new ≡ with_variable self.old name.now) }
         ensures err { OnErr result (self.new ≡ self.old) }
     {
@@ -85,7 +90,8 @@ impl Instance {
         requires few_places { length scope.now ≤ 6 }
         requires below { All (λ x. x < length self.old.variables) scope.now }
         requires room { length self.old.constraints < 4096 }
-        ensures ok { OnOk result (self.new ≡ with_constraint self.old (record { relation = relation; scope = scope.now })) }
+        ensures ok { OnOk result
+            (self.new ≡ with_constraint self.old (record { relation = relation; scope = scope.now })) }
         ensures err { OnErr result (self.new ≡ self.old) }
     {
         let scope = SmallVec::from_slice(*self.constraints.allocator(), scope)?;
@@ -116,11 +122,12 @@ impl Instance {
         self.variables[i as usize].as_slice()
     }
 
-    /// The number of the variable that has the name.
+    /// The number of the variable that has the name. None exactly where no variable has it.
     pub fn find_variable(&self, name: &[u8]) -> Option<u32>
+        ensures place { result ≡ place_in self.now.variables name.now }
         ensures known { IfSome result (λ i. i < length self.now.variables) }
         ensures found { IfSome result (λ i. slice_index_or self.now.variables i [] ≡ name.now) }
-        ensures none { IfNone result (Contains self.now.variables name.now → ⊥) }
+        ensures none { IfNone result (¬ Contains self.now.variables name.now) }
     {
         let place = self
             .variables

@@ -1,7 +1,8 @@
 ghost use Rattle.std.specs.Prelude.{◌≡◌, ℕ, ◌-◌, ◌^◌, ◌<◌, ◌≤◌, ◌↔◌, min, length, Contains, IfOk, IfSome, IfNone, OnOk, OnErr, IsErrOf, [], ◌∷◌};
-ghost use Rattle.pol_defs.specs.Tuples.{IsTuple};
-ghost use Rattle.pol_defs.specs.Relations.{LanguageView, IsLanguage, IsRelationOver, names_of, name_of, relation_of, last_of, with_relation, with_last_row};
-ghost use Rattle.pol_defs.specs.Files.{weight_of, subset_weight_of};
+ghost use Rattle.pol_base.specs.Tuples.{IsTuple};
+ghost use Rattle.pol_base.specs.Lists.{place_in};
+ghost use Rattle.pol_relation.specs.Relations.{LanguageView, IsLanguage, IsRelationOver, names_of, name_of, relation_of, last_of, with_relation, with_last_row};
+ghost use Rattle.pol_relation.specs.Weights.{weight_of, subset_weight_of};
 
 use crate::Relation;
 use indexmap::IndexMap;
@@ -19,14 +20,16 @@ pub struct Language {
 
 impl Model for Language {
     ghost use Rattle.std.specs.Prelude.{◌≤◌, length};
-    ghost use Rattle.pol_defs.specs.Relations.{LanguageView, IsLanguage};
+    ghost use Rattle.pol_relation.specs.Relations.{LanguageView, IsLanguage};
     ghost use Rattle.pol_relation.specs.Named.{named_relations};
 
     ghost Value = { LanguageView };
 
     ghost view = { λ l. record { domain = l.domain; relations = named_relations l.relations.entries } };
 
-    ghost invariant = { λ l. IsLanguage (record { domain = l.domain; relations = named_relations l.relations.entries }) × (length l.relations.entries ≤ 4096) };
+    ghost invariant = { λ l.
+        IsLanguage (record { domain = l.domain; relations = named_relations l.relations.entries })
+        × (length l.relations.entries ≤ 4096) };
 }
 
 /// Why a relation was not added.
@@ -80,7 +83,7 @@ impl Language {
     fn push(&mut self, name: &[u8], relation: Relation) -> Result<(), NoMemory>
         requires domain { relation.domain ≡ self.old.domain }
         requires room { length self.old.relations < 4096 }
-        requires new { Contains (names_of self.old) name.now → ⊥ }
+        requires new { ¬ Contains (names_of self.old) name.now }
         ensures ok { OnOk result (self.new ≡ with_relation self.old name.now relation) }
         ensures err { OnErr result (self.new ≡ self.old) }
     {
@@ -102,11 +105,12 @@ impl Language {
         }
     }
 
-    /// The number of the relation that has the name.
+    /// The number of the relation that has the name. None exactly where no relation has it.
     pub fn find(&self, name: &[u8]) -> Option<u32>
+        ensures place { result ≡ place_in (names_of self.now) name.now }
         ensures known { IfSome result (λ i. i < length self.now.relations) }
         ensures found { IfSome result (λ i. name_of self.now i ≡ name.now) }
-        ensures none { IfNone result (Contains (names_of self.now) name.now → ⊥) }
+        ensures none { IfNone result (¬ Contains (names_of self.now) name.now) }
     {
         let place = self.relations.get_index_of(name)?;
         Some(place as u32)

@@ -1,6 +1,6 @@
 ghost use Rattle.std.specs.Prelude.{◌≡◌, ℕ, ◌<◌, ◌≤◌, ◌%◌, ◌/◌, ◌↔◌, length, All, Contains, IfOk, IfErr, OnOk, OnErr, IsTrue, slice_index_or, insert, []};
-ghost use Rattle.pol_defs.specs.Tuples.{IsTuple};
-ghost use Rattle.pol_defs.specs.Relations.{RelationView, IsRelation, with_row, has_row, tuples_in, SameMembers};
+ghost use Rattle.pol_base.specs.Tuples.{IsTuple};
+ghost use Rattle.pol_relation.specs.Relations.{RelationView, IsRelation, with_row, with_row_in, tuples_in, SameMembers};
 
 use pol_base::{Domain, NoMemory, Values};
 use std::alloc::Global;
@@ -51,7 +51,8 @@ impl Relation {
         requires below { All (λ v. v < d) rows.now }
         ensures domain { IfOk result (λ r. r.domain ≡ d) }
         ensures arity { IfOk result (λ r. r.arity ≡ arity) }
-        ensures members { IfOk result (λ r. SameMembers r.rows (tuples_in arity (length rows.now / arity) rows.now)) }
+        ensures members { IfOk result (λ r.
+            SameMembers r.rows (tuples_in arity (length rows.now / arity) rows.now)) }
         ensures relation { IfOk result IsRelation }
     {
         let mut relation = Relation {
@@ -71,7 +72,7 @@ impl Relation {
     /// Adds the tuple, which changes nothing where it is a row.
     pub fn insert(&mut self, tuple: &[u8]) -> Result<(), NoMemory>
         requires tuple { IsTuple self.old.domain self.old.arity tuple.now }
-        ensures ok { OnOk result (self.new ≡ record { domain = self.old.domain; arity = self.old.arity; rows = with_row tuple.now self.old.rows }) }
+        ensures ok { OnOk result (self.new ≡ with_row_in self.old tuple.now) }
         ensures err { OnErr result (self.new ≡ self.old) }
     {
         if let Err(place) = self.search(tuple) {
@@ -145,9 +146,10 @@ impl Relation {
     fn search(&self, tuple: &[u8]) -> Result<usize, usize>
         requires tuple { IsTuple self.now.domain self.now.arity tuple.now }
         ensures found { OnOk result (Contains self.now.rows tuple.now) }
-        ensures absent { OnErr result (Contains self.now.rows tuple.now → ⊥) }
+        ensures absent { OnErr result (¬ Contains self.now.rows tuple.now) }
         ensures within { IfErr result (λ place. place ≤ length self.now.rows) }
-        ensures goes { IfErr result (λ place. with_row tuple.now self.now.rows ≡ insert self.now.rows place tuple.now) }
+        ensures goes { IfErr result (λ place.
+            with_row tuple.now self.now.rows ≡ insert self.now.rows place tuple.now) }
     {
         self.rows.binary_search_by(|row| row.as_slice().cmp(tuple))
     }

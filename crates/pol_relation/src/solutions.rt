@@ -1,6 +1,6 @@
 ghost use Rattle.std.specs.Prelude.{ℕ, ◌<◌, ◌↔◌, length, IsTrue};
-ghost use Rattle.pol_defs.specs.Tuples.{IsTuple};
-ghost use Rattle.pol_defs.specs.Instances.{Fits, Meets, IsSolution, constraint_of};
+ghost use Rattle.pol_base.specs.Tuples.{IsTuple};
+ghost use Rattle.pol_relation.specs.Instances.{Fits, Meets, IsSolution, constraint_of};
 
 use crate::Language;
 use crate::instance::{Instance, MOST_PLACES};

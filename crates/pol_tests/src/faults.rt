@@ -1,6 +1,8 @@
-use crate::harness::run_on;
-use pol_cli::{Ended, run};
-use pol_outside::{CalmSource, MemorySink, MemorySource, QuietSink};
+use crate::harness::{run_on, words};
+use pol_cli::{Ended, ending_without_words, run};
+use pol_outside::{CalmSource, Failed, MemorySink, MemorySource, QuietSink};
+use pol_text::{Refusal, Word};
+use std::io::ErrorKind;
 use std::test::Fail;
 
 const FILE: &[u8] =
@@ -9,21 +11,33 @@ const FILE: &[u8] =
 const USAGE: &[u8] = b"usage: polyanna report | polyanna check | polyanna gen N\n";
 
 #[test]
-fn words_that_are_not_known(rt: HostRuntime) -> Result<(), Fail> {
+fn words_that_are_no_command(rt: HostRuntime) -> Result<(), Fail> {
     let alloc = rt.alloc();
-    for word in [
-        "Report",
-        "gen",
-        "gen 3",
-        "check",
-        "--help",
-        "report extra",
-        "",
-    ] {
-        let done = run_on(alloc, word, FILE)?;
-        assert_eq!(rt; done.text.as_slice(), USAGE);
-        assert_eq!(rt; done.status, 2);
+    let lines: [&[&str]; 12] = [
+        &[],
+        &[""],
+        &["Report"],
+        &["report "],
+        &["report", "extra"],
+        &["report", "report"],
+        &["report extra"],
+        &["check"],
+        &["gen"],
+        &["gen", "12x"],
+        &["gen", "1234567890"],
+        &["--help"],
+    ];
+    for line in lines {
+        let done = run_on(alloc, line, FILE)?;
+        assert_eq!(rt; done.text.as_slice(), USAGE, "at {line:?}");
+        assert_eq!(rt; done.status, 2, "at {line:?}");
     }
+    Ok(())
+}
+
+#[test]
+fn words_that_are_no_command_read_nothing(rt: HostRuntime) -> Result<(), Fail> {
+    let alloc = rt.alloc();
     let mut source = MemorySource::new(FILE, 1, &[0]);
     let mut sink = MemorySink::new(alloc, 100, 1, &[])?;
     assert_eq!(rt; run(alloc, &[], &mut source, &mut sink), Ended::Usage);
@@ -34,7 +48,7 @@ fn words_that_are_not_known(rt: HostRuntime) -> Result<(), Fail> {
 #[test]
 fn faults_in_mid_stream(rt: HostRuntime) -> Result<(), Fail> {
     let alloc = rt.alloc();
-    let words = vec![in alloc; String::from_str(alloc, "report")?]?;
+    let words = words(alloc, &["report"])?;
     let mut source = MemorySource::new(FILE, 8, &[1]);
     let mut sink = MemorySink::new(alloc, 1024, 64, &[])?;
     assert_eq!(rt;
@@ -55,9 +69,43 @@ fn faults_in_mid_stream(rt: HostRuntime) -> Result<(), Fail> {
 #[test]
 fn runs_without_faults(rt: HostRuntime) -> Result<(), Fail> {
     let alloc = rt.alloc();
-    let words = vec![in alloc; String::from_str(alloc, "report")?]?;
+    let words = words(alloc, &["report"])?;
     let mut source = CalmSource::new(FILE, 7);
     let mut sink = QuietSink::new();
     assert_eq!(rt; run(alloc, &words, &mut source, &mut sink), Ended::Done);
+    Ok(())
+}
+
+#[test]
+fn statuses_behind_a_flush(rt: HostRuntime) -> Result<(), Fail> {
+    let refused = Ended::Refused(Refusal {
+        line: 1,
+        word: Word::NoHeader,
+    });
+    let cases = [
+        (Ended::Done, 0, 5),
+        (Ended::Rejected, 1, 5),
+        (Ended::Usage, 2, 5),
+        (refused, 3, 5),
+        (Ended::ReadFault, 4, 4),
+        (Ended::WriteFault, 5, 5),
+        (Ended::NoMemory, 6, 6),
+    ];
+    for (ended, flushed, failed) in cases {
+        assert_eq!(rt; ended.status_after(Ok(())), flushed);
+        assert_eq!(rt; ended.status_after(Err(Failed)), failed);
+    }
+    Ok(())
+}
+
+#[test]
+fn words_that_could_not_be_had(rt: HostRuntime) -> Result<(), Fail> {
+    let cases = [
+        (ErrorKind::OutOfMemory, Some(Ended::NoMemory)),
+        (ErrorKind::InvalidData, None),
+    ];
+    for (kind, ended) in cases {
+        assert_eq!(rt; ending_without_words(kind), ended);
+    }
     Ok(())
 }

@@ -13,10 +13,18 @@ pub(crate) struct Outcome {
     pub(crate) status: u8,
 }
 
-/// Runs with one word of the command line.
-pub(crate) fn run_on(alloc: Global, word: &str, input: &[u8]) -> Result<Outcome, NoMemory> {
-    let mut words = Vec::new(alloc);
-    words.push(String::from_str(alloc, word)?)?;
+/// The words of a command line.
+pub(crate) fn words(alloc: Global, words: &[&str]) -> Result<Vec<String>, NoMemory> {
+    let mut owned = Vec::new(alloc);
+    for word in words {
+        owned.push(String::from_str(alloc, word)?)?;
+    }
+    Ok(owned)
+}
+
+/// Runs with these words of the command line.
+pub(crate) fn run_on(alloc: Global, line: &[&str], input: &[u8]) -> Result<Outcome, NoMemory> {
+    let words = words(alloc, line)?;
     let mut source = MemorySource::new(input, 64, &[]);
     let mut sink = MemorySink::new(alloc, 65_536, 64, &[])?;
     let ended = run(alloc, &words, &mut source, &mut sink);
@@ -43,7 +51,7 @@ pub(crate) fn assert_written(
     input: &[u8],
     text: &[u8],
 ) -> Result<(), Fail> {
-    let done = run_on(alloc, "report", input)?;
+    let done = run_on(alloc, &["report"], input)?;
     assert_eq!(rt;
         done.text.as_slice(),
         lines(alloc, text)?.as_slice(),

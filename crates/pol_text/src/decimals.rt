@@ -1,7 +1,7 @@
 ghost use Rattle.std.specs.Prelude.{◌≡◌, ◌++◌, ◌-◌, map, codes, decimal, IsTrue, OnOk, OnErr};
-ghost use Rattle.pol_defs.specs.Lines.{number_of, is_number};
-ghost use Rattle.pol_defs.specs.Tuples.{cell_of};
-ghost use Rattle.pol_defs.specs.Texts.{spaced, GrowsByFront};
+ghost use Rattle.pol_text.specs.Lines.{number_of, is_number};
+ghost use Rattle.pol_base.specs.Tuples.{cell_of};
+ghost use Rattle.pol_text.specs.Texts.{spaced, Puts};
 
 use itoa::Buffer;
 use pol_base::{NoMemory, Values};
@@ -9,6 +9,7 @@ use pol_base::{NoMemory, Values};
 const MOST_DIGITS: usize = 9;
 
 /// The number that the token writes: 1 to 9 decimal digits, where leading zeros are allowed.
+/// None for every other token.
 pub fn number(token: &[u8]) -> Option<u32>
     ensures number { result ≡ number_of token.now }
 {
@@ -40,28 +41,25 @@ fn value(digits: &[u8]) -> u32
     value
 }
 
-/// Appends the decimal digits of the number.
+/// Appends the decimal digits of the number. Where memory runs out, a front of them is appended.
 pub fn put_number(out: &mut Values, n: u64) -> Result<(), NoMemory>
-    ensures ok { OnOk result (out.new ≡ out.old ++ decimal n) }
-    ensures err { OnErr result (out.new ≡ out.old) }
+    ensures puts { Puts result out.old out.new (decimal n) }
 {
     let mut buffer = Buffer::new();
     out.append(buffer.format(n).as_bytes())
 }
 
-/// Appends a space and the number.
+/// Appends a space and the number. Where memory runs out, a front of them is appended.
 pub fn put_spaced(out: &mut Values, n: u64) -> Result<(), NoMemory>
-    ensures ok { OnOk result (out.new ≡ out.old ++ (codes " " ++ decimal n)) }
-    ensures err { OnErr result (GrowsByFront out.old out.new (codes " " ++ decimal n)) }
+    ensures puts { Puts result out.old out.new (codes " " ++ decimal n) }
 {
     out.append(b" ")?;
     put_number(out, n)
 }
 
-/// Appends the values, each behind a space.
+/// Appends the values, each behind a space. Where memory runs out, a front of them is appended.
 pub fn put_values(out: &mut Values, values: &[u8]) -> Result<(), NoMemory>
-    ensures ok { OnOk result (out.new ≡ out.old ++ spaced values.now) }
-    ensures err { OnErr result (GrowsByFront out.old out.new (spaced values.now)) }
+    ensures puts { Puts result out.old out.new (spaced values.now) }
 {
     for value in values {
         put_spaced(out, u64::from(*value))?;
@@ -69,10 +67,9 @@ pub fn put_values(out: &mut Values, values: &[u8]) -> Result<(), NoMemory>
     Ok(())
 }
 
-/// Appends the numbers, each behind a space.
+/// Appends the numbers, each behind a space. Where memory runs out, a front of them is appended.
 pub fn put_numbers(out: &mut Values, numbers: &[u32]) -> Result<(), NoMemory>
-    ensures ok { OnOk result (out.new ≡ out.old ++ spaced numbers.now) }
-    ensures err { OnErr result (GrowsByFront out.old out.new (spaced numbers.now)) }
+    ensures puts { Puts result out.old out.new (spaced numbers.now) }
 {
     for number in numbers {
         put_spaced(out, u64::from(*number))?;

@@ -12,5 +12,5 @@ pub use decimals::{number, put_number, put_numbers, put_spaced, put_values};
 pub use lines::{Line, Lines, count_lines, significant};
 pub use names::is_name;
 pub use refusal::{ReadFail, Refusal, put_refusal};
-pub use tokens::Tokens;
+pub use tokens::{Tokens, put_token};
 pub use word::Word;

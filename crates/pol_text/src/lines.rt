@@ -1,10 +1,13 @@
-ghost use Rattle.std.specs.Prelude.{◌≡◌, ℕ, ◌+◌, ◌<◌, ◌≤◌, ◌==◌, ◌^◌, List, ◌∷◌, length, take, drop, count_by, slice_get, option_map};
+ghost use Rattle.std.specs.Prelude.{◌≡◌, ℕ, ◌+◌, ◌<◌, ◌≤◌, ◌==◌, ◌^◌, List, ◌∷◌, length, take, drop, count_by, slice_get, option_map, position};
 ghost use Rattle.std.specs.Iterator.{YieldsFirst, item_count};
-ghost use Rattle.pol_defs.specs.Lines.{LineView, lines_of, without_last, line_text, tokens_of, is_significant, significant_among, significant_lines};
+ghost use Rattle.pol_text.specs.Lines.{LineView, lines_of, without_last, line_text, tokens_of, is_significant, significant_among, significant_lines};
 
 use crate::Tokens;
-use memchr::memchr;
 use std::marker::Model;
+
+const LF: u8 = b'\n';
+
+const CR: u8 = b'\r';
 
 /// A significant line: it has a token, and its first token does not begin with `#`.
 #[derive(Drop)]
@@ -59,7 +62,7 @@ impl<'a> Line<'a> {
         self.tokens().count()
     }
 
-    /// The token at place `i`, counted from 0.
+    /// The token at place `i`, counted from 0. None where there are no more than `i` tokens.
     pub fn token(&self, i: usize) -> Option<&'a [u8]>
         ensures token { option_map (λ t. t.now) result ≡ slice_get self.now.tokens i }
     {
@@ -122,7 +125,7 @@ impl<'a> Iterator for Lines<'a> {
     }
 }
 
-/// How many lines the text has.
+/// How many lines the text has. What stands behind the last LF is a line where it is not empty.
 pub fn count_lines(bytes: &[u8]) -> u32
     requires room { length bytes.now < 2 ^ 32 }
     ensures lines { result ≡ length (lines_of bytes.now) }
@@ -131,33 +134,41 @@ pub fn count_lines(bytes: &[u8]) -> u32
         return 0;
     };
     let ended = line_ends(bytes) as u32;
-    if *last == b'\n' { ended } else { ended + 1 }
+    if *last == LF { ended } else { ended + 1 }
 }
 
 /// How many bytes are an LF.
 fn line_ends(bytes: &[u8]) -> usize
     ensures ends { result ≡ count_by (λ b. b == 10) bytes.now }
 {
-    bytes.iter().filter(|byte| **byte == b'\n').count()
+    bytes.iter().filter(|byte| **byte == LF).count()
 }
 
 /// How long the first line is, its LF included.
 fn line_length(bytes: &[u8]) -> usize
     ensures within { result ≤ length bytes.now }
     ensures some { 0 < length bytes.now → 0 < result }
-    ensures first { 0 < length bytes.now → lines_of bytes.now ≡ take result bytes.now ∷ lines_of (drop result bytes.now) }
+    ensures first { 0 < length bytes.now
+        → lines_of bytes.now ≡ take result bytes.now ∷ lines_of (drop result bytes.now) }
 {
-    match memchr(b'\n', bytes) {
+    match line_feed(bytes) {
         Some(place) => place + 1,
         None => bytes.len(),
     }
+}
+
+/// The place of the first LF.
+fn line_feed(bytes: &[u8]) -> Option<usize>
+    ensures place { result ≡ position (λ b. b == 10) bytes.now }
+{
+    bytes.iter().position(|byte| *byte == LF)
 }
 
 /// The line without its LF, and without one CR at its end.
 fn without_end(line: &[u8]) -> &[u8]
     ensures text { result.now ≡ line_text line.now }
 {
-    without_last(without_last(line, b'\n'), b'\r')
+    without_last(without_last(line, LF), CR)
 }
 
 /// The bytes without the last one, where that is this byte.

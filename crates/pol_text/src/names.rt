@@ -1,5 +1,5 @@
 ghost use Rattle.std.specs.Prelude.{◌≡◌};
-ghost use Rattle.pol_defs.specs.Lines.{is_name, is_letter, is_name_byte};
+ghost use Rattle.pol_text.specs.Lines.{is_name, is_letter, is_name_byte};
 
 const MOST_BYTES: usize = 32;
 

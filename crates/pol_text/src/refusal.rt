@@ -1,7 +1,6 @@
 ghost use Rattle.std.specs.Prelude.{◌≡◌, ◌++◌, OnOk, OnErr};
-ghost use Rattle.pol_defs.specs.Refusals.{refusal_line};
-ghost use Rattle.pol_defs.specs.Texts.{GrowsByFront};
-ghost use Rattle.pol_text.specs.Words.{refusal_named};
+ghost use Rattle.pol_text.specs.Refusals.{refusal_line};
+ghost use Rattle.pol_text.specs.Texts.{Puts};
 
 use crate::{Word, put_number};
 use pol_base::{NoMemory, Values};
@@ -30,10 +29,9 @@ impl From<NoMemory> for ReadFail {
     }
 }
 
-/// Appends `refused LINE WORD` and LF.
+/// Appends `refused LINE WORD` and LF. Where memory runs out, a front of them is appended.
 pub fn put_refusal(out: &mut Values, refusal: Refusal) -> Result<(), NoMemory>
-    ensures ok { OnOk result (out.new ≡ out.old ++ refusal_line (refusal_named refusal)) }
-    ensures err { OnErr result (GrowsByFront out.old out.new (refusal_line (refusal_named refusal))) }
+    ensures puts { Puts result out.old out.new (refusal_line refusal) }
 {
     out.append(b"refused ")?;
     put_number(out, u64::from(refusal.line))?;

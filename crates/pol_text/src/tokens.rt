@@ -1,8 +1,10 @@
-ghost use Rattle.std.specs.Prelude.{◌≡◌, ◌≤◌, ℕ, List, length, not};
+ghost use Rattle.std.specs.Prelude.{◌≡◌, ◌≤◌, ◌++◌, ℕ, List, codes, length, not};
 ghost use Rattle.std.specs.Iterator.{YieldsFirstBy, item_count};
 ghost use Rattle.std.specs.List.{position_or_len};
-ghost use Rattle.pol_defs.specs.Lines.{tokens_of, is_blank};
+ghost use Rattle.pol_text.specs.Lines.{tokens_of, is_blank};
+ghost use Rattle.pol_text.specs.Texts.{Puts};
 
+use pol_base::{NoMemory, Values};
 use std::marker::Model;
 
 /// The tokens of a line, from left to right.
@@ -69,4 +71,12 @@ fn is_blank(byte: u8) -> bool
     ensures blank { result ≡ is_blank byte }
 {
     byte == b' ' || byte == b'\t'
+}
+
+/// Appends a space and the token. Where memory runs out, a front of them is appended.
+pub fn put_token(out: &mut Values, token: &[u8]) -> Result<(), NoMemory>
+    ensures puts { Puts result out.old out.new (codes " " ++ token.now) }
+{
+    out.append(b" ")?;
+    out.append(token)
 }

@@ -1,6 +1,5 @@
 ghost use Rattle.std.specs.Prelude.{◌≡◌};
-ghost use Rattle.pol_defs.specs.Refusals.{word_text};
-ghost use Rattle.pol_text.specs.Words.{word_named};
+ghost use Rattle.pol_text.specs.Refusals.{word_text};
 
 /// Why a text is refused.
 #[derive(Clone, Copy, Debug, PartialEq, Eq)]
@@ -36,7 +35,7 @@ pub enum Word {
 impl Word {
     /// The word as it is printed.
     pub fn text(self) -> &'static [u8]
-        ensures text { result.now ≡ word_text (word_named self) }
+        ensures text { result.now ≡ word_text self }
     {
         match self {
             Word::NoHeader => b"NoHeader",

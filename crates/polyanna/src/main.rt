@@ -1,7 +1,7 @@
 //! The program: hands the words of the command line and the two standard streams to the top call.
 #![tactic(auto)]
 
-use pol_cli::{Ended, run};
+use pol_cli::{ending_without_words, run};
 use pol_outside::{ReaderSource, WriterSink};
 use std::process::ExitCode;
 use std::{env, io};
@@ -9,22 +9,15 @@ use std::{env, io};
 fn main(rt: HostRuntime) -> ExitCode {
     let words = match words(&rt) {
         Ok(words) => words,
-        Err(error) if error.kind() == io::ErrorKind::OutOfMemory => {
-            return ExitCode::from(Ended::NoMemory.status());
-        }
-        // words that are no text are not known
-        Err(_) => Vec::new(rt.alloc()),
+        Err(error) => match ending_without_words(error.kind()) {
+            Some(ended) => return ExitCode::from(ended.status()),
+            None => Vec::new(rt.alloc()),
+        },
     };
     let mut source = ReaderSource::new(rt.stdin());
     let mut sink = WriterSink::new(rt.stdout());
     let ended = run(rt.alloc(), &words, &mut source, &mut sink);
-    let status = match (sink.finish(), ended) {
-        (Err(_), Ended::Done | Ended::Rejected | Ended::Usage | Ended::Refused(_)) => {
-            Ended::WriteFault.status()
-        }
-        _ => ended.status(),
-    };
-    ExitCode::from(status)
+    ExitCode::from(ended.status_after(sink.finish()))
 }
 
 /// The words behind the program's name.

@@ -1,7 +1,7 @@
 use Rattle.std.proofs.Common.{arith, take, get_or}
 use Rattle.std.proofs.lemmas.List.{take_more}
 use Rattle.std.proofs.lemmas.Nat.{mul-le}
-use Rattle.pol_defs.proofs.CellLemmas.{cell_of-take, cell_of-push}
+use Rattle.pol_base.proofs.CellLemmas.{cell_of-take, cell_of-push}
 use Rattle.pol_base.proofs.numbering.cell_of.Goals as goal
 
 pub overflow_mul-cell : goal.overflow_mul-cell

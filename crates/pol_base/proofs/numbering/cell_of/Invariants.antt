@@ -1,6 +1,6 @@
 -- the digits so far write the cell
 use Rattle.std.proofs.Common.{◌≡◌, take}
-use Rattle.pol_defs.specs.Tuples.{cell_of}
+use Rattle.pol_base.specs.Tuples.{cell_of}
 use Rattle.pol_base.proofs.numbering.cell_of.Given as goal
 
 abbrev pub invariant-loop-digit : goal.invariant-loop-digit

@@ -1,7 +1,7 @@
 -- a domain of one value has one cell for any number of arguments
 use Rattle.std.proofs.Common.{◌≡◌, ◌^◌, refl, arith, add-one, ◌*◌, ◌+◌, ◌<◌}
 use Rattle.std.proofs.Math.Nat.{pow-suc}
-use Rattle.pol_defs.proofs.CellLemmas.{power_of_one, power_monotone}
+use Rattle.pol_base.proofs.CellLemmas.{power_of_one, power_monotone}
 use Rattle.pol_base.proofs.numbering.cells.Goals as goal
 
 pub returns-then-size-eq1-clause-none : goal.returns-then-size-eq1-clause-none

@@ -1,6 +1,6 @@
 use Rattle.std.proofs.Common.{refl, ◌≡◌, ◌+◌, ◌-◌, ◌*◌, ◌^◌, arith, add-one}
 use Rattle.std.proofs.Math.Nat.{pow-suc, div-div-eq-div-mul}
-use Rattle.pol_defs.proofs.CellLemmas.{get_or-digits_of}
+use Rattle.pol_base.proofs.CellLemmas.{get_or-digits_of}
 use Rattle.pol_base.proofs.numbering.digit.Goals as goal
 
 pub loop-preserved : goal.loop-preserved

@@ -1,4 +1,4 @@
-use Rattle.pol_defs.proofs.CellLemmas.{cell_of-digits_of, cell_of-IsTuple, digits_of-cell_of-IsTuple}
+use Rattle.pol_base.proofs.CellLemmas.{cell_of-digits_of, cell_of-IsTuple, digits_of-cell_of-IsTuple}
 use Rattle.pol_base.proofs.numbering.inverse_laws.Goals as goal
 
 pub returns-clause-digits_write : goal.returns-clause-digits_write

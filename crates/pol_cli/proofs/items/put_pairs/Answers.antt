@@ -1,10 +1,17 @@
-use Rattle.std.proofs.Common.{sym, arith}
+use Rattle.std.proofs.Common.{◌<◌, length, sym, subst, arith}
 use Rattle.std.proofs.lemmas.Option.{get_or_from_slice_get}
-use Rattle.pol_defs.specs.Nogoods.{Pair}
-use Rattle.pol_cli.proofs.PrintLemmas.{pair_more}
+use Rattle.std.proofs.lemmas.Result.{MatchResult-from_err}
+use Rattle.pol_nogood.specs.Nogoods.{Pair}
+use Rattle.pol_text.specs.Texts.{GrowsByFront, spaced_texts}
+use Rattle.pol_text.proofs.TextLemmas.{joined-front}
+use Rattle.pol_cli.specs.Items.{pair_tokens}
 use Rattle.pol_cli.proofs.items.put_pairs.Goals as goal
 
-pub loop-i-preserved : goal.loop-i-preserved
-loop-i-preserved c =
+-- a front of one more pair
+pub returns-in_err-put_pair : goal.returns-in_err-put_pair
+returns-in_err-put_pair c =
     let p : Pair = record { variable = c.pair-variable.result.0; value = c.pair-variable.result.1 } in
-    pair_more _ _ _ c.args.nogood.now c.loop-i.i p p (omega arith) (sym (get_or_from_slice_get c.args.nogood.now c.loop-i.i p p c.pair-variable.ensures.pair)) c.loop-i.invariant c.in_ok-put_pair.ensures.ok
+    let inside : c.loop-i.i < length c.args.nogood.now = omega (arith, c.loop-i-test.true, c.len-i-end.ensures.pairs) in
+    let is = sym (get_or_from_slice_get c.args.nogood.now c.loop-i.i p p c.pair-variable.ensures.pair) in
+    let front = subst (λ q. GrowsByFront c.loop-i.out c.put_pair.new.out (spaced_texts (pair_tokens q))) is c.in_err-put_pair.ensures.puts in
+    record { puts = MatchResult-from_err c.from_residual.result _ _ c.from_residual.ensures.0 (λ _. joined-front (λ q. spaced_texts (pair_tokens q)) c.args.nogood.now c.loop-i.i p _ _ _ inside c.loop-i.invariant front) }

@@ -1,6 +1,8 @@
-use Rattle.std.proofs.Common.{codes}
-use Rattle.pol_cli.proofs.PrintLemmas.{three_more}
+use Rattle.std.proofs.Common.{◌++◌, [], ◌∷◌, refl, codes}
+use Rattle.pol_text.specs.Texts.{spaced_texts}
+use Rattle.pol_cli.proofs.PrintLemmas.{cut_first}
 use Rattle.pol_cli.proofs.items.put_undecided.Goals as goal
 
-pub returns : goal.returns
-returns c = record { ok = three_more _ (codes "instance ") _ (codes " undecided\n") _ _ _ c.in_ok-append.ensures.ok c.in_ok-append-2.ensures.ok c.in_ok-append-3.ensures.ok }
+pub returns-in_err-put_begun : goal.returns-in_err-put_begun
+returns-in_err-put_begun c =
+    record { puts = cut_first c.from_residual.result _ _ (codes "instance" ++ spaced_texts (c.args.name.now ∷ codes "undecided" ∷ [])) (codes "\n") _ c.from_residual.ensures.0 c.in_err-put_begun.ensures.puts refl }

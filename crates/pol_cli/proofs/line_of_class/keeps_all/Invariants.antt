@@ -1,6 +1,6 @@
 use Rattle.std.proofs.Common.{ℕ, ◌<◌}
-use Rattle.pol_defs.specs.Relations.{relation_of}
-use Rattle.pol_defs.specs.Classes.{HoldsConstant}
+use Rattle.pol_relation.specs.Relations.{relation_of}
+use Rattle.pol_optable.specs.Constants.{HoldsConstant}
 use Rattle.pol_cli.proofs.line_of_class.keeps_all.Given as goal
 
 -- each relation so far is kept

@@ -1,5 +1,5 @@
 use Rattle.std.proofs.Common.{ℕ, ◌<◌}
-use Rattle.pol_defs.specs.Classes.{ClosedUnder}
+use Rattle.pol_optable.specs.Constants.{ClosedUnder}
 use Rattle.pol_cli.proofs.line_of_class.least_constant.Given as goal
 
 -- the language is closed under no smaller value

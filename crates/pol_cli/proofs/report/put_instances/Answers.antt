@@ -1,10 +1,11 @@
-use Rattle.std.proofs.Common.{subst, arith}
-use Rattle.pol_cli.specs.Items.{AppendsItem}
-use Rattle.pol_cli.proofs.ItemLemmas.{items_more}
+use Rattle.std.proofs.Common.{subst, sym, arith}
+use Rattle.pol_cli.specs.Reports.{Subject, HasItems, AppendsItem}
+use Rattle.pol_cli.proofs.ReportLemmas.{subjects-next, HasItems-push}
 use Rattle.pol_cli.proofs.report.put_instances.Goals as goal
 
 pub loop-i-preserved : goal.loop-i-preserved
 loop-i-preserved c =
-    let in_language = subst (λ lang. AppendsItem lang c.instance.result.now c.loop-i.text c.put_instance.new.text) c.lang.ensures.language c.in_ok-put_instance.ensures.item in
-    let item = subst (λ inst. AppendsItem c.args.file.now.language inst c.loop-i.text c.put_instance.new.text) c.instance.ensures.instance in_language in
-    items_more c.args.file.now c.loop-i.i c.loop-i.text c.put_instance.new.text (omega arith) c.loop-i.invariant item
+    let file = c.args.file.now in
+    let in_language = subst (λ lang. AppendsItem lang (Subject.OfInstance c.instance.result.now) c.loop-i.text c.put_instance.new.text) c.lang.ensures.language c.in_ok-put_instance.ensures.item in
+    let item = subst (λ inst. AppendsItem file.language (Subject.OfInstance inst) c.loop-i.text c.put_instance.new.text) c.instance.ensures.instance in_language in
+    subst (λ some. HasItems file.language some c.put_instance.new.text) (sym (subjects-next file c.loop-i.i (omega arith))) (HasItems-push file.language _ _ c.loop-i.text c.put_instance.new.text c.loop-i.invariant item)

@@ -1,6 +1,6 @@
 use Rattle.std.proofs.Common.{◌≢◌, ℕ, ◌<◌, []}
-use Rattle.pol_defs.specs.Relations.{rows_of}
-use Rattle.pol_defs.specs.Instances.{constraint_of}
+use Rattle.pol_relation.specs.Relations.{rows_of}
+use Rattle.pol_relation.specs.Instances.{constraint_of}
 use Rattle.pol_cli.proofs.solving.first_without_rows.Given as goal
 
 -- the constraints so far have rows

@@ -1,14 +1,15 @@
 use Rattle.std.proofs.Common.{◌≡◌, replicate, length, ap, sym, subst, ◌∙◌}
-use Rattle.pol_defs.specs.Instances.{IsSolution}
-use Rattle.pol_defs.specs.ValidLogs.{breaking_log}
-use Rattle.pol_defs.proofs.LogSound.{log_sound}
-use Rattle.pol_defs.proofs.LogMaking.{breaking_log-no_fault}
-use Rattle.pol_defs.proofs.ConstantSolutions.{constant_solution}
+use Rattle.pol_relation.specs.Instances.{IsSolution}
+use Rattle.pol_nogood.specs.Logs.{breaking_log}
+use Rattle.pol_nogood.proofs.LogSound.{valid_log_sound}
+use Rattle.pol_nogood.proofs.LogMaking.{breaking_log-valid}
+use Rattle.pol_cli.proofs.ConstantSolutions.{constant_solution}
 use Rattle.pol_cli.proofs.solving.solve_constant.Goals as goal
 
 pub returns-in_ok-breaking_log-in-Some-clause-no_only_without_solution : goal.returns-in_ok-breaking_log-in-Some-clause-no_only_without_solution
 returns-in_ok-breaking_log-in-Some-clause-no_only_without_solution c assignment solution =
-    log_sound c.args.lang.now c.args.inst.now (breaking_log c.in-Some.c) assignment (breaking_log-no_fault c.args.lang.now c.args.inst.now c.in-Some.c c.in-Some.ensures.known c.in-Some.ensures.empty) solution
+    let first = c.in-Some.ensures.first in
+    valid_log_sound c.args.lang.now c.args.inst.now (breaking_log c.in-Some.c) (breaking_log-valid c.args.lang.now c.args.inst.now c.in-Some.c first.known first.empty) assignment solution
 
 pub returns-in_ok-constant_assignment-in-None-clause-yes : goal.returns-in_ok-constant_assignment-in-None-clause-yes
 returns-in_ok-constant_assignment-in-None-clause-yes c =

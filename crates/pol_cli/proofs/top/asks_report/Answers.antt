@@ -1,6 +1,6 @@
 use Rattle.std.proofs.Common.{◌≡◌, ◌↔◌, IsTrue, sym, subst, ap₂, ◌∙◌, arith, codes, string_bytes}
-use Rattle.pol_defs.specs.Relations.{is_same}
-use Rattle.pol_defs.specs.Due.{AsksReport}
+use Rattle.pol_base.specs.Lists.{is_same}
+use Rattle.pol_cli.specs.Due.{AsksReport}
 use Rattle.pol_cli.specs.Runs.{texts_of}
 use Rattle.pol_cli.proofs.WordLemmas.{AsksReport-one}
 use Rattle.pol_cli.proofs.top.asks_report.Goals as goal

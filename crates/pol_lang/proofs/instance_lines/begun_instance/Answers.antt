@@ -1,10 +1,10 @@
 use Rattle.std.proofs.Common.{◌≡◌, not, [], ◌∷◌, ◌++◌, Ok, Err, ap, sym, ◌∙◌, rules}
 use Rattle.std.proofs.lemmas.Result.{err_from_is_err_and}
-use Rattle.pol_defs.specs.Instances.{with_variable}
-use Rattle.pol_defs.specs.Lines.{is_name}
-use Rattle.pol_defs.specs.Relations.{is_among}
-use Rattle.pol_defs.specs.Grammar.{names_of_tokens}
-use Rattle.pol_defs.proofs.FileLemmas.{IsFileInstance-names}
+use Rattle.pol_relation.specs.Instances.{with_variable}
+use Rattle.pol_text.specs.Lines.{is_name}
+use Rattle.pol_base.specs.Lists.{is_among}
+use Rattle.pol_lang.specs.Grammar.{names_of_tokens}
+use Rattle.pol_lang.proofs.FileLemmas.{IsFileInstance-names}
 use Rattle.pol_lang.proofs.InstanceLemmas.{refused_name}
 use Rattle.pol_lang.proofs.instance_lines.begun_instance.Goals as goal
 

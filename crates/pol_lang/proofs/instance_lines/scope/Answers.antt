@@ -1,6 +1,6 @@
 use Rattle.std.proofs.Common.{◌≡◌, Ok, rules}
-use Rattle.pol_defs.specs.Grammar.{scope_of}
-use Rattle.pol_defs.proofs.AcceptedLines.{scope_of-names}
+use Rattle.pol_lang.specs.Grammar.{scope_of}
+use Rattle.pol_lang.proofs.AcceptedLines.{scope_of-names}
 use Rattle.pol_lang.proofs.instance_lines.scope.Goals as goal
 
 pub returns-clause-long : goal.returns-clause-long

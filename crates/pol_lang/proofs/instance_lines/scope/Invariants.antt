@@ -1,5 +1,5 @@
 use Rattle.std.proofs.Common.{◌≡◌}
-use Rattle.pol_defs.specs.Grammar.{scope_of}
+use Rattle.pol_lang.specs.Grammar.{scope_of}
 use Rattle.pol_lang.proofs.ValueLemmas.{with_front}
 use Rattle.pol_lang.proofs.instance_lines.scope.Given as goal
 

@@ -1,6 +1,7 @@
 use Rattle.std.proofs.Common.{◌∙◌}
-use Rattle.pol_defs.specs.Relations.{names_of}
-use Rattle.pol_defs.proofs.NameLemmas.{is_some-lookup, relation-lookup}
+use Rattle.pol_relation.specs.Relations.{names_of}
+use Rattle.pol_base.proofs.LookupLemmas.{is_some-lookup}
+use Rattle.pol_relation.proofs.NameLookups.{relation-lookup}
 use Rattle.pol_lang.proofs.language_lines.has_relation.Goals as goal
 
 pub returns : goal.returns

@@ -1,5 +1,5 @@
 use Rattle.std.proofs.Common.{◌≡◌, Ok, rules}
-use Rattle.pol_defs.specs.Grammar.{values_of}
+use Rattle.pol_lang.specs.Grammar.{values_of}
 use Rattle.pol_lang.proofs.ValueLemmas.{values_of-tuple}
 use Rattle.pol_lang.proofs.language_lines.values.Goals as goal
 

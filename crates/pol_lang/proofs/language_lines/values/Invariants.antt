@@ -1,5 +1,5 @@
 use Rattle.std.proofs.Common.{◌≡◌}
-use Rattle.pol_defs.specs.Grammar.{values_of}
+use Rattle.pol_lang.specs.Grammar.{values_of}
 use Rattle.pol_lang.proofs.ValueLemmas.{with_front}
 use Rattle.pol_lang.proofs.language_lines.values.Given as goal
 

@@ -1,6 +1,6 @@
 use Rattle.std.proofs.Common.{◌≡◌, ℕ, List, true, rules, arith, []}
 use Rattle.std.proofs.lemmas.Iterator.{YieldsList-from_range, cases_from_all}
-use Rattle.pol_defs.specs.Lines.{is_name}
+use Rattle.pol_text.specs.Lines.{is_name}
 use Rattle.pol_relation.proofs.RangeLemmas.{HoldsOfPlace, FailsOfPlace, All-from_places}
 use Rattle.pol_lang.proofs.limits.has_named_variables.Goals as goal
 use borrow.Author.Tests.{tests}

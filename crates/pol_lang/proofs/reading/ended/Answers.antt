@@ -1,5 +1,5 @@
 use Rattle.std.proofs.Common.{arith}
-use Rattle.pol_defs.proofs.LineLemmas.{length-lines_of-le}
+use Rattle.pol_text.proofs.LineLemmas.{length-lines_of-le}
 use Rattle.pol_lang.proofs.reading.ended.Goals as goal
 
 -- there are no more lines than bytes

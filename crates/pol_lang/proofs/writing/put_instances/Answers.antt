@@ -1,19 +1,20 @@
-use Rattle.std.proofs.Common.{◌<◌, ◌++◌, length, ap, subst, ◌∙◌, arith, ap₂}
-use Rattle.pol_defs.specs.Files.{no_instance}
-use Rattle.pol_defs.specs.Texts.{GrowsByFront, instance_text}
-use Rattle.pol_defs.proofs.TextLemmas.{joined-grown, joined-front, at_exit, instances_text-joined}
+use Rattle.std.proofs.Common.{◌++◌, ◌∙◌, ap, subst, arith}
+use Rattle.pol_text.specs.Texts.{joined, printed_line, GrowsByFront}
+use Rattle.pol_text.proofs.TextLemmas.{flat_mapped-grown, flat_mapped-stopped}
+use Rattle.pol_lang.specs.Files.{no_instance}
+use Rattle.pol_lang.specs.Spelling.{instance_lines}
 use Rattle.pol_lang.proofs.writing.put_instances.Goals as goal
 
 -- a front of one more text
-pub returns-in_err-put_instance-clause-err : goal.returns-in_err-put_instance-clause-err
-returns-in_err-put_instance-clause-err c =
-    let inside : c.loop-i.i < length c.args.file.now.instances = omega (arith, c.loop-i-test.true, c.instances-i-end.ensures.count) in
-    let part = subst (GrowsByFront c.loop-i.out c.put_instance.new.out) (ap₂ instance_text c.lang.ensures.language c.instance.ensures.instance) c.in_err-put_instance.ensures.err in
-    at_exit c.from_residual.result _ (rw (instances_text-joined c.args.file.now.language c.args.file.now.instances) (joined-front (instance_text c.args.file.now.language) c.args.file.now.instances c.loop-i.i no_instance c.args.out.now c.loop-i.out c.put_instance.new.out inside c.loop-i.invariant part))
+pub returns-in_err-put_instance : goal.returns-in_err-put_instance
+returns-in_err-put_instance c =
+    let lang = c.args.file.now.language in
+    let part = subst (λ inst. GrowsByFront c.loop-i.out c.put_instance.new.out (joined printed_line (instance_lines lang inst))) c.instance.ensures.instance c.in_err-put_instance.ensures.puts in
+    record { puts = flat_mapped-stopped _ printed_line (instance_lines lang) _ _ no_instance _ _ _ c.from_residual.ensures.0 (omega arith) c.loop-i.invariant part }
 
 -- one more text
 pub loop-i-preserved : goal.loop-i-preserved
 loop-i-preserved c =
-    let inside : c.loop-i.i < length c.args.file.now.instances = omega (arith, c.loop-i-test.true, c.instances-i-end.ensures.count) in
-    let more = c.in_ok-put_instance.ensures.ok ∙ ap (λ text. c.loop-i.out ++ text) (ap₂ instance_text c.lang.ensures.language c.instance.ensures.instance) in
-    joined-grown (instance_text c.args.file.now.language) c.args.file.now.instances c.loop-i.i no_instance c.args.out.now c.loop-i.out c.put_instance.new.out inside c.loop-i.invariant more
+    let lang = c.args.file.now.language in
+    let more = c.in_ok-put_instance.ensures.puts ∙ ap (λ inst. c.loop-i.out ++ joined printed_line (instance_lines lang inst)) c.instance.ensures.instance in
+    flat_mapped-grown printed_line (instance_lines lang) _ _ no_instance _ _ _ (omega arith) c.loop-i.invariant more

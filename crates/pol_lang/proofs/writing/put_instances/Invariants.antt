@@ -1,8 +1,8 @@
-use Rattle.std.proofs.Common.{◌≡◌, ◌++◌, take}
-use Rattle.pol_defs.specs.Texts.{instance_text}
-use Rattle.pol_defs.proofs.TextLemmas.{joined}
+use Rattle.std.proofs.Common.{◌≡◌, ◌++◌, take, flat_map}
+use Rattle.pol_text.specs.Texts.{joined, printed_line}
+use Rattle.pol_lang.specs.Spelling.{instance_lines}
 use Rattle.pol_lang.proofs.writing.put_instances.Given as goal
 
--- the instances so far stand behind the old
+-- the instances so far stand behind what was there
 abbrev pub invariant-loop-i : goal.invariant-loop-i
-invariant-loop-i l = l.out ≡ l.initial.out ++ joined (instance_text l.file.language) (take l.i l.file.instances)
+invariant-loop-i l = l.out ≡ l.initial.out ++ joined printed_line (flat_map (instance_lines l.file.language) (take l.i l.file.instances))

@@ -1,8 +1,8 @@
-use Rattle.std.proofs.Common.{◌≡◌, ◌++◌, take}
-use Rattle.pol_defs.specs.Texts.{relation_text}
-use Rattle.pol_defs.proofs.TextLemmas.{joined}
+use Rattle.std.proofs.Common.{◌≡◌, ◌++◌, take, flat_map}
+use Rattle.pol_text.specs.Texts.{joined, printed_line}
+use Rattle.pol_lang.specs.Texts.{relation_lines}
 use Rattle.pol_lang.proofs.writing.put_relations.Given as goal
 
--- the relations so far stand behind the old
+-- the relations so far stand behind what was there
 abbrev pub invariant-loop-i : goal.invariant-loop-i
-invariant-loop-i l = l.out ≡ l.initial.out ++ joined relation_text (take l.i l.lang.relations)
+invariant-loop-i l = l.out ≡ l.initial.out ++ joined printed_line (flat_map relation_lines (take l.i l.file.language.relations))

@@ -1,7 +1,8 @@
-use Rattle.std.proofs.Common.{◌≡◌, ◌++◌, take}
-use Rattle.pol_defs.proofs.TextLemmas.{joined, tuple_text}
+use Rattle.std.proofs.Common.{◌≡◌, ◌++◌, take, map}
+use Rattle.pol_text.specs.Texts.{joined, printed_line}
+use Rattle.pol_lang.specs.Texts.{tuple_tokens}
 use Rattle.pol_lang.proofs.writing.put_tuples.Given as goal
 
--- the lines so far stand behind the old
+-- the rows so far stand behind what was there
 abbrev pub invariant-loop-i : goal.invariant-loop-i
-invariant-loop-i l = l.out ≡ l.initial.out ++ joined tuple_text (take l.i l.relation.rows)
+invariant-loop-i l = l.out ≡ l.initial.out ++ joined printed_line (map tuple_tokens (take l.i l.relation.rows))

@@ -1,6 +1,7 @@
 use Rattle.std.proofs.Common.{sym}
 use Rattle.std.proofs.lemmas.Bool.{or_from, not_from_true, eq-eqb, ne_eqb}
-use Rattle.pol_defs.specs.Nogoods.{Pair, compatible}
+use Rattle.pol_nogood.specs.Nogoods.{Pair}
+use Rattle.pol_nogood.specs.Logs.{compatible}
 use Rattle.pol_nogood.proofs.PairWalks.{all_fails}
 use Rattle.pol_nogood.proofs.cases.agrees.Goals as goal
 

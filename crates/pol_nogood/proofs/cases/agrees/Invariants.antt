@@ -1,6 +1,6 @@
 use Rattle.std.proofs.Common.{◌≡◌, true, take}
 use Rattle.std.specs.List.{list_all}
-use Rattle.pol_defs.specs.Nogoods.{compatible}
+use Rattle.pol_nogood.specs.Logs.{compatible}
 use Rattle.pol_nogood.proofs.cases.agrees.Given as goal
 
 abbrev pub invariant-loop-i : goal.invariant-loop-i

@@ -1,6 +1,7 @@
 use Rattle.std.proofs.Common.{sym}
 use Rattle.std.proofs.lemmas.Bool.{and_from, eq-eqb}
-use Rattle.pol_defs.specs.Nogoods.{Pair, same_pair}
+use Rattle.pol_nogood.specs.Nogoods.{Pair}
+use Rattle.pol_nogood.specs.LogFaults.{same_pair}
 use Rattle.pol_nogood.proofs.PairWalks.{any_found}
 use Rattle.pol_nogood.proofs.cases.has_pair.Goals as goal
 

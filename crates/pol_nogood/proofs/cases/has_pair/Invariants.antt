@@ -1,6 +1,6 @@
 use Rattle.std.proofs.Common.{◌≡◌, false, take}
 use Rattle.std.specs.List.{list_any}
-use Rattle.pol_defs.specs.Nogoods.{same_pair}
+use Rattle.pol_nogood.specs.LogFaults.{same_pair}
 use Rattle.pol_nogood.proofs.cases.has_pair.Given as goal
 
 abbrev pub invariant-loop-i : goal.invariant-loop-i

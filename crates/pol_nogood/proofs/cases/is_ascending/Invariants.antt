@@ -1,5 +1,5 @@
 use Rattle.std.proofs.Common.{◌≡◌, true, take}
-use Rattle.pol_defs.specs.Nogoods.{ascending_pairs}
+use Rattle.pol_nogood.specs.LogFaults.{ascending_pairs}
 use Rattle.pol_nogood.proofs.cases.is_ascending.Given as goal
 
 abbrev pub invariant-loop-i : goal.invariant-loop-i

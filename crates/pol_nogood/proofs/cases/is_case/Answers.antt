@@ -3,7 +3,7 @@ use Rattle.std.specs.List.{list_all}
 use Rattle.std.specs.Iterator.Adapters.{zip_first, zip_second}
 use Rattle.std.specs.Slice.Iter.{iter_rest}
 use Rattle.std.proofs.lemmas.Slice.Zip.{either_empty_from_Zip}
-use Rattle.pol_defs.specs.Nogoods.{compatible, reading}
+use Rattle.pol_nogood.specs.Logs.{compatible, reading}
 use Rattle.pol_nogood.proofs.PairWalks.{reading-ended}
 use Rattle.pol_nogood.proofs.cases.is_case.Goals as goal
 

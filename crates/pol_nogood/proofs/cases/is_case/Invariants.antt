@@ -2,7 +2,7 @@ use Rattle.std.proofs.Common.{◌≡◌, ◌++◌}
 use Rattle.std.specs.List.{list_all}
 use Rattle.std.specs.Iterator.Adapters.{zip_first, zip_second}
 use Rattle.std.specs.Slice.Iter.{iter_rest}
-use Rattle.pol_defs.specs.Nogoods.{compatible, reading, is_case}
+use Rattle.pol_nogood.specs.Logs.{compatible, reading, is_case}
 use Rattle.pol_nogood.proofs.cases.is_case.Given as goal
 
 -- what is left to read tells what all does

@@ -2,7 +2,9 @@ use Rattle.std.proofs.Common.{◌≡◌, true, false, ◌++◌, ◌∙◌, sym}
 use Rattle.std.specs.List.{list_any}
 use Rattle.std.proofs.lemmas.Bool.{or_from, or_left, or_right}
 use Rattle.std.proofs.lemmas.List.Folds.{list_any-append}
-use Rattle.pol_defs.specs.Nogoods.{Pair, same_pair, reading}
+use Rattle.pol_nogood.specs.Nogoods.{Pair}
+use Rattle.pol_nogood.specs.LogFaults.{same_pair}
+use Rattle.pol_nogood.specs.Logs.{reading}
 use Rattle.pol_nogood.proofs.PairWalks.{all_more, all_fails}
 use Rattle.pol_nogood.proofs.cases.is_contained.Goals as goal
 use Rattle.pol_nogood.proofs.cases.is_contained.Goals.{else-not-has_pair-via-then-not-has_pair+else-not-reads, else-not-has_pair-via-else-not-has_pair}

@@ -1,5 +1,6 @@
 use Rattle.std.proofs.Common.{◌≡◌, true, ◌++◌, take}
-use Rattle.pol_defs.specs.Nogoods.{contained_in, reading}
+use Rattle.pol_nogood.specs.LogFaults.{contained_in}
+use Rattle.pol_nogood.specs.Logs.{reading}
 use Rattle.pol_nogood.proofs.cases.is_contained.Given as goal
 
 abbrev pub invariant-loop-i : goal.invariant-loop-i

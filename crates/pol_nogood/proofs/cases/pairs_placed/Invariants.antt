@@ -1,5 +1,5 @@
 use Rattle.std.proofs.Common.{◌≡◌, true, take}
-use Rattle.pol_defs.specs.Nogoods.{pairs_placed}
+use Rattle.pol_nogood.specs.LogFaults.{pairs_placed}
 use Rattle.pol_nogood.proofs.cases.pairs_placed.Given as goal
 
 abbrev pub invariant-loop-i : goal.invariant-loop-i

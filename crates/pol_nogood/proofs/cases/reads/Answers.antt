@@ -3,7 +3,8 @@ use Rattle.std.specs.List.{list_any}
 use Rattle.std.specs.Iterator.Adapters.{zip_first, zip_second}
 use Rattle.std.specs.Slice.Iter.{iter_rest}
 use Rattle.std.proofs.lemmas.Slice.Zip.{either_empty_from_Zip}
-use Rattle.pol_defs.specs.Nogoods.{Pair, same_pair}
+use Rattle.pol_nogood.specs.Nogoods.{Pair}
+use Rattle.pol_nogood.specs.LogFaults.{same_pair}
 use Rattle.pol_nogood.proofs.PairWalks.{reading-ended}
 use Rattle.pol_nogood.proofs.cases.reads.Goals as goal
 

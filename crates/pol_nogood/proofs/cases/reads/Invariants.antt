@@ -2,7 +2,8 @@ use Rattle.std.proofs.Common.{◌≡◌}
 use Rattle.std.specs.List.{list_any}
 use Rattle.std.specs.Iterator.Adapters.{zip_first, zip_second}
 use Rattle.std.specs.Slice.Iter.{iter_rest}
-use Rattle.pol_defs.specs.Nogoods.{same_pair, reading}
+use Rattle.pol_nogood.specs.LogFaults.{same_pair}
+use Rattle.pol_nogood.specs.Logs.{reading}
 use Rattle.pol_nogood.proofs.cases.reads.Given as goal
 
 -- what is left to read tells what all does

@@ -1,13 +1,18 @@
-use Rattle.std.proofs.Common.{None, Some, length, ◌∙◌, sym, arith}
-use Rattle.std.proofs.lemmas.Bool.{cond-true}
-use Rattle.pol_defs.specs.Nogoods.{Why, ends_empty}
-use Rattle.pol_defs.proofs.LogFaults.{past_all}
-use Rattle.pol_defs.proofs.LogSound.{log_sound}
+use Rattle.std.proofs.Common.{refl, sym, ◌∙◌}
+use Rattle.std.proofs.lemmas.Option.{none-some}
+use Rattle.pol_nogood.proofs.FaultLemmas.{valid_from_fault, fault_from_valid, first_from_fault}
+use Rattle.pol_nogood.proofs.LogSound.{log_sound}
 use Rattle.pol_nogood.proofs.checking.check_log.Goals as goal
 
-pub returns-then-ends_empty-clause-refuted : goal.returns-then-ends_empty-clause-refuted
-returns-then-ends_empty-clause-refuted c = λ assignment solution.
-    let log = c.args.log.now in
-    let passed = past_all c.args.lang.now c.args.inst.now log c.loop-s.s (omega (arith, c.len-s-end.ensures.steps, c.loop-s-test.false)) c.loop-s.invariant in
-    let ended = cond-true (ends_empty log) None (Some (record { step = length log; why = Why.NoEmptyEnd })) (sym c.ends_empty.ensures.ends ∙ c.if-ends_empty.true) in
-    log_sound c.args.lang.now c.args.inst.now log assignment (passed ∙ ended) solution
+pub returns-in-None-clause-valid : goal.returns-in-None-clause-valid
+returns-in-None-clause-valid c = (λ ok. valid_from_fault c.args.lang.now c.args.inst.now c.args.log.now (sym c.in-None.ensures.fault), λ valid. refl)
+
+pub returns-in-None-clause-refuted : goal.returns-in-None-clause-refuted
+returns-in-None-clause-refuted c = log_sound c.args.lang.now c.args.inst.now c.args.log.now (sym c.in-None.ensures.fault)
+
+pub returns-in-Some-clause-valid : goal.returns-in-Some-clause-valid
+returns-in-Some-clause-valid c =
+    (λ ok. cc, λ valid. absurd (none-some c.in-Some.fault (sym (fault_from_valid c.args.lang.now c.args.inst.now c.args.log.now valid) ∙ sym c.in-Some.ensures.fault)))
+
+pub returns-in-Some-clause-first : goal.returns-in-Some-clause-first
+returns-in-Some-clause-first c = first_from_fault c.args.lang.now c.args.inst.now c.args.log.now c.in-Some.fault (sym c.in-Some.ensures.fault)

@@ -1,7 +1,9 @@
 use Rattle.std.proofs.Common.{◌≡◌, ◌-◌, ◌≤◌, ◌↔◌, Bool, true, false, IsTrue, List, [], ◌∷◌, length, refl, sym, subst, ap, ◌∙◌, arith}
 use Rattle.std.proofs.lemmas.Bool.{iff_false, false_from_ne_true}
-use Rattle.pol_defs.specs.Nogoods.{Pair, StepView, nogood_at, ends_empty}
-use Rattle.pol_defs.proofs.LogFaults.{last_from_test, test_from_last}
+use Rattle.pol_nogood.specs.Nogoods.{Pair}
+use Rattle.pol_nogood.specs.Logs.{StepView, nogood_at}
+use Rattle.pol_nogood.specs.LogFaults.{ends_empty}
+use Rattle.pol_nogood.proofs.FaultLemmas.{last_from_test, test_from_last}
 use Rattle.pol_nogood.proofs.checking.ends_empty.Goals as goal
 
 some_steps : (log : List StepView) → (log ≡ [] → ⊥) → 1 ≤ length log

@@ -1,6 +1,6 @@
 use Rattle.std.proofs.Common.{true, false, eqb, length, refl, sym, ◌∙◌}
 use Rattle.std.proofs.lemmas.Bool.{eq-eqb, ne_eqb}
-use Rattle.pol_defs.specs.Nogoods.{cases_of}
+use Rattle.pol_nogood.specs.Logs.{cases_of}
 use Rattle.pol_nogood.specs.Steps.{step_named}
 use Rattle.pol_nogood.proofs.StepFaults.{fault-tested}
 use Rattle.pol_nogood.proofs.checking.step_fault.Goals as goal
@@ -11,7 +11,7 @@ returns-in-None c =
     let references = c.references-references.result.now in
     let cases = cases_of c.args.lang.now c.args.inst.now s.basis s.nogood in
     record {
-      fault = fault-tested c.args.lang.now c.args.inst.now c.args.log.now c.args.s s references c.requires.known c.step-step.ensures.step c.references-references.ensures.references true true false (eqb (length references) (length cases))
+      fault = fault-tested c.args.lang.now c.args.inst.now c.args.log.now c.args.s s c.requires.known c.step-step.ensures.step references c.references-references.ensures.references true true false (eqb (length references) (length cases))
           (sym c.if-not-is_placed.false ∙ c.is_placed.ensures.placed) (sym c.if-not-are_earlier.false ∙ c.are_earlier.ensures.earlier) c.in-None.ensures.covered refl;
     }
 
@@ -21,7 +21,7 @@ returns-in-Some c =
     let references = c.references-references.result.now in
     let cases = cases_of c.args.lang.now c.args.inst.now s.basis s.nogood in
     record {
-      fault = fault-tested c.args.lang.now c.args.inst.now c.args.log.now c.args.s s references c.requires.known c.step-step.ensures.step c.references-references.ensures.references true true true false
+      fault = fault-tested c.args.lang.now c.args.inst.now c.args.log.now c.args.s s c.requires.known c.step-step.ensures.step references c.references-references.ensures.references true true true false
           (sym c.if-not-is_placed.false ∙ c.is_placed.ensures.placed) (sym c.if-not-are_earlier.false ∙ c.are_earlier.ensures.earlier) c.in-Some.ensures.covered
           (sym (ne_eqb (length references) (length cases) (λ same. c.if-cases-references.true (c.in-Some.ensures.count ∙ sym same))));
     }
@@ -32,7 +32,7 @@ returns-in-Some-2 c =
     let references = c.references-references.result.now in
     let cases = cases_of c.args.lang.now c.args.inst.now s.basis s.nogood in
     record {
-      fault = fault-tested c.args.lang.now c.args.inst.now c.args.log.now c.args.s s references c.requires.known c.step-step.ensures.step c.references-references.ensures.references true true true true
+      fault = fault-tested c.args.lang.now c.args.inst.now c.args.log.now c.args.s s c.requires.known c.step-step.ensures.step references c.references-references.ensures.references true true true true
           (sym c.if-not-is_placed.false ∙ c.is_placed.ensures.placed) (sym c.if-not-are_earlier.false ∙ c.are_earlier.ensures.earlier) c.in-Some.ensures.covered
           (sym (eq-eqb (length references) (length cases) (sym c.if-cases-references.false ∙ c.in-Some.ensures.count)));
     }

@@ -3,8 +3,8 @@ use borrow.Author.Tests.{tests}
 use Rattle.std.proofs.lemmas.Bool.Decides.{nat_tests}
 use Rattle.std.proofs.lemmas.Iterator.{YieldsList-from_slice}
 use Rattle.std.proofs.lemmas.Iterator.Search.{all_from_yields_List}
-use Rattle.pol_defs.specs.Lines.{is_digit}
-use Rattle.pol_defs.proofs.LineLemmas.{is_number-digits}
+use Rattle.pol_text.specs.Lines.{is_digit}
+use Rattle.pol_text.proofs.LineLemmas.{is_number-digits}
 use Rattle.pol_text.proofs.decimals.is_number.Goals as goal
 
 pub returns : goal.returns

@@ -1,7 +1,7 @@
-use Rattle.std.proofs.Common.{◌≡◌, ◌++◌, take, codes, decimal}
-use Rattle.pol_defs.proofs.TextLemmas.{joined}
+use Rattle.std.proofs.Common.{◌≡◌, ◌++◌, take}
+use Rattle.pol_text.specs.Texts.{spaced}
 use Rattle.pol_text.proofs.decimals.put_numbers.Given as goal
 
--- the values so far stand behind the old
+-- those so far stand behind what was there
 abbrev pub invariant-loop-number : goal.invariant-loop-number
-invariant-loop-number l = l.out ≡ l.initial.out ++ joined (λ v. codes " " ++ decimal v) (take l.number-index l.numbers)
+invariant-loop-number l = l.out ≡ l.initial.out ++ spaced (take l.number-index l.numbers)

@@ -1,7 +1,7 @@
-use Rattle.std.proofs.Common.{◌≡◌, ◌++◌, take, codes, decimal}
-use Rattle.pol_defs.proofs.TextLemmas.{joined}
+use Rattle.std.proofs.Common.{◌≡◌, ◌++◌, take}
+use Rattle.pol_text.specs.Texts.{spaced}
 use Rattle.pol_text.proofs.decimals.put_values.Given as goal
 
--- the values so far stand behind the old
+-- those so far stand behind what was there
 abbrev pub invariant-loop-value : goal.invariant-loop-value
-invariant-loop-value l = l.out ≡ l.initial.out ++ joined (λ v. codes " " ++ decimal v) (take l.value-index l.values)
+invariant-loop-value l = l.out ≡ l.initial.out ++ spaced (take l.value-index l.values)

@@ -1,7 +1,7 @@
 use Rattle.std.proofs.Common.{◌≡◌, ℕ, ◌+◌, ◌*◌, ◌<◌, ◌≤◌, ◌^◌, true, List, length, arith, add-one}
 use Rattle.std.proofs.Math.Nat.{pow-suc, pow-le-pow_right}
-use Rattle.pol_defs.specs.Lines.{is_number}
-use Rattle.pol_defs.proofs.LineLemmas.{few_digits_from_number, IsDigit-from_number, cell_of-digit_more}
+use Rattle.pol_text.specs.Lines.{is_number}
+use Rattle.pol_text.proofs.LineLemmas.{few_digits_from_number, IsDigit-from_number, cell_of-digit_more}
 use Rattle.pol_text.proofs.decimals.value.Goals as goal
 
 -- at most eight digits stand before a digit of a number

@@ -1,6 +1,6 @@
 -- the number that the digits before this one write, which stays below a power of ten
 use Rattle.std.proofs.Common.{◌≡◌, ◌-◌, ◌<◌, ◌^◌, map, take}
-use Rattle.pol_defs.specs.Tuples.{cell_of}
+use Rattle.pol_base.specs.Tuples.{cell_of}
 use Rattle.pol_text.proofs.decimals.value.Given as goal
 
 abbrev pub invariant-loop-digit : goal.invariant-loop-digit

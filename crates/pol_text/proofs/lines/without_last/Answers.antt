@@ -2,8 +2,8 @@ use Rattle.std.proofs.Common.{◌≡◌, ◌≢◌, ℕ, List, [], ◌∷◌, �
 use Rattle.std.specs.Prelude.{MatchOption}
 use Rattle.std.proofs.lemmas.Bool.Decides.{Decides-eqb}
 use Rattle.std.proofs.lemmas.Slice.Eq.{strip_suffix_is}
-use Rattle.pol_defs.specs.Lines.{without_last}
-use Rattle.pol_defs.proofs.LineLemmas.{without_last-push, without_last-other}
+use Rattle.pol_text.specs.Lines.{without_last}
+use Rattle.pol_text.proofs.LineLemmas.{without_last-push, without_last-other}
 use Rattle.pol_text.proofs.lines.without_last.Goals as goal
 
 -- what is left is the front where the byte ends the list, and the list where it does not

@@ -3,8 +3,8 @@ use borrow.Author.Tests.{tests}
 use Rattle.std.proofs.lemmas.Iterator.{YieldsList-from_slice}
 use Rattle.std.proofs.lemmas.Iterator.Search.{all_from_yields_List}
 use Rattle.std.proofs.lemmas.List.{take_rest}
-use Rattle.pol_defs.specs.Lines.{is_letter, is_name_byte}
-use Rattle.pol_defs.proofs.LineLemmas.{is_name-bytes}
+use Rattle.pol_text.specs.Lines.{is_letter, is_name_byte}
+use Rattle.pol_text.proofs.LineLemmas.{is_name-bytes}
 use Rattle.pol_text.proofs.names.is_name.Goals as goal
 
 pub returns : goal.returns

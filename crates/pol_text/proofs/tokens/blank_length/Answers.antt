@@ -2,7 +2,7 @@ use Rattle.std.proofs.Common.{◌∙◌, rules}
 use borrow.Author.Tests.{tests}
 use Rattle.std.proofs.lemmas.Iterator.{YieldsList-from_slice}
 use Rattle.std.proofs.lemmas.Iterator.Search.{position_from_yields_List}
-use Rattle.pol_defs.proofs.LineLemmas.{is_solid, position_or_len-found, position_or_len-le}
+use Rattle.pol_text.proofs.LineLemmas.{is_solid, position_or_len-found, position_or_len-le}
 use Rattle.pol_text.proofs.tokens.blank_length.Goals as goal
 
 pub returns-clause-length : goal.returns-clause-length

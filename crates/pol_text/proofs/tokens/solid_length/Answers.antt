@@ -2,8 +2,8 @@ use Rattle.std.proofs.Common.{◌∙◌, rules}
 use borrow.Author.Tests.{tests}
 use Rattle.std.proofs.lemmas.Iterator.{YieldsList-from_slice}
 use Rattle.std.proofs.lemmas.Iterator.Search.{position_from_yields_List}
-use Rattle.pol_defs.specs.Lines.{is_blank}
-use Rattle.pol_defs.proofs.LineLemmas.{position_or_len-found, position_or_len-le}
+use Rattle.pol_text.specs.Lines.{is_blank}
+use Rattle.pol_text.proofs.LineLemmas.{position_or_len-found, position_or_len-le}
 use Rattle.pol_text.proofs.tokens.solid_length.Goals as goal
 
 pub returns-clause-length : goal.returns-clause-length

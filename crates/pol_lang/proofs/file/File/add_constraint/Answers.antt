@@ -1,10 +1,10 @@
 use Rattle.std.proofs.Common.{◌≡◌, ◌<◌, ◌-◌, length, get_or, set, ap, sym, ◌∙◌, arith}
 use Rattle.std.proofs.lemmas.List.{get_or_default}
-use Rattle.pol_defs.specs.Instances.{ConstraintView, with_constraint}
-use Rattle.pol_defs.specs.Relations.{relation_of}
-use Rattle.pol_defs.specs.Files.{FileView, no_instance, with_constraint_at_last}
-use Rattle.pol_defs.proofs.RelationLemmas.{IsRelationOver-relation_of}
-use Rattle.pol_defs.proofs.FileLemmas.{IsFile-with_last_constraint, set-with_constraint}
+use Rattle.pol_relation.specs.Instances.{ConstraintView, with_constraint}
+use Rattle.pol_relation.specs.Relations.{relation_of}
+use Rattle.pol_lang.specs.Files.{FileView, no_instance, with_constraint_at_last}
+use Rattle.pol_relation.proofs.RelationLemmas.{IsRelationOver-relation_of}
+use Rattle.pol_lang.proofs.FileLemmas.{IsFile-with_last_constraint, set-with_constraint}
 use Rattle.pol_lang.proofs.file.File.add_constraint.Goals as goal
 
 abbrev constraint : goal.In_ok-add_constraint → ConstraintView

@@ -1,6 +1,6 @@
 use Rattle.std.proofs.Common.{◌≡◌, [], ap, ◌∙◌}
-use Rattle.pol_defs.specs.Files.{FileView}
-use Rattle.pol_defs.proofs.FileLemmas.{IsFile-with_relation}
+use Rattle.pol_lang.specs.Files.{FileView}
+use Rattle.pol_lang.proofs.FileLemmas.{IsFile-with_relation}
 use Rattle.pol_lang.proofs.file.File.begin_relation.Goals as goal
 
 pub invariant_of-self-2 : goal.invariant_of-self-2

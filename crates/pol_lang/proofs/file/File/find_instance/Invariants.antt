@@ -1,5 +1,5 @@
 use Rattle.std.proofs.Common.{◌≡◌, ℕ, ◌<◌}
-use Rattle.pol_defs.specs.Files.{instance_of}
+use Rattle.pol_lang.specs.Files.{instance_of}
 use Rattle.pol_lang.proofs.file.File.find_instance.Given as goal
 
 -- no instance so far has the name

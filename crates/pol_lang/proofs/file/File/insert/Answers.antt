@@ -1,5 +1,5 @@
-use Rattle.pol_defs.specs.Files.{FileView}
-use Rattle.pol_defs.proofs.FileLemmas.{IsFile-with_row}
+use Rattle.pol_lang.specs.Files.{FileView}
+use Rattle.pol_lang.proofs.FileLemmas.{IsFile-with_row}
 use Rattle.pol_lang.proofs.file.File.insert.Goals as goal
 
 pub invariant_of-self-2 : goal.invariant_of-self-2

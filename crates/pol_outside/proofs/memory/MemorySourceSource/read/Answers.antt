@@ -6,4 +6,4 @@ pub returns-then-is_failing-clause-cause : goal.returns-then-is_failing-clause-c
 returns-then-is_failing-clause-cause c = rw (← c.self.view_is) (counted_fault _ _ _ _ c.saturating_add-self-inside.ensures (search rules))
 
 pub returns-clause-cause : goal.returns-clause-cause
-returns-clause-cause c = rw (← c.self.view_is) (kept_count _ _ _ _ c.saturating_add-self-inside.ensures (search rules))
+returns-clause-cause c = rw (← c.self.view_is) (kept_count _ _ _ _ c.saturating_add-self-inside.ensures (search rules) (search rules))

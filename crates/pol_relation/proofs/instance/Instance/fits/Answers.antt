@@ -1,6 +1,6 @@
 use Rattle.std.proofs.Common.{rules, arith, length}
 use Rattle.std.proofs.lemmas.Iterator.{YieldsList-from_range, cases_from_all}
-use Rattle.pol_defs.specs.Instances.{FitsAt, no_constraint}
+use Rattle.pol_relation.specs.Instances.{FitsAt, no_constraint}
 use Rattle.pol_relation.proofs.RangeLemmas.{HoldsOfPlace, FailsOfPlace, All-from_places}
 use Rattle.pol_relation.proofs.instance.Instance.fits.Goals as goal
 use borrow.Author.Tests.{tests}

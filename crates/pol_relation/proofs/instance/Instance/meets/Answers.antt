@@ -1,6 +1,6 @@
 use Rattle.std.proofs.Common.{◌≡◌, ◌<◌, length, ◌∙◌, arith, length-set}
-use Rattle.pol_defs.specs.Instances.{FitsAt, no_constraint, constraint_of}
-use Rattle.pol_defs.specs.Relations.{relation_of, rows_of}
+use Rattle.pol_relation.specs.Instances.{FitsAt, no_constraint, constraint_of}
+use Rattle.pol_relation.specs.Relations.{relation_of, rows_of}
 use Rattle.pol_relation.proofs.SolutionLemmas.{IsTuple-read_at, IsRead-next, IsRead-all}
 use Rattle.pol_relation.proofs.instance.Instance.meets.Goals as goal
 

@@ -1,5 +1,5 @@
 use Rattle.std.proofs.Common.{◌≡◌, length, take}
-use Rattle.pol_defs.specs.Instances.{read_at}
+use Rattle.pol_relation.specs.Instances.{read_at}
 use Rattle.pol_relation.proofs.instance.Instance.meets.Given as goal
 
 abbrev pub invariant-loop-place : goal.invariant-loop-place

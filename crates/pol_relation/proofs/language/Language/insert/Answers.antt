@@ -1,10 +1,10 @@
-use Rattle.std.proofs.Common.{◌≡◌, ℕ, suc, ◌-◌, ◌<◌, ◌≤◌, List, length, true≢false, sym, ap, subst, ◌∙◌, arith}
+use Rattle.std.proofs.Common.{◌≡◌, suc, ◌-◌, ◌<◌, ◌≤◌, length, true≢false, sym, ap, subst, ◌∙◌, arith}
 use Rattle.std.proofs.lemmas.List.{length-map}
 use Rattle.std.proofs.lemmas.Result.{on_ok_weaker, on_err_weaker}
 use Rattle.indexmap.specs.IndexMap.{set_value_at}
 use Rattle.indexmap.proofs.CallerLemmas.{index_map_len-with_value_at}
-use Rattle.pol_defs.specs.Relations.{RelationView}
-use Rattle.pol_relation.specs.Named.{named_relations}
+use Rattle.pol_relation.specs.Relations.{NamedRelation}
+use Rattle.pol_relation.specs.Named.{named_entry, named_relations}
 use Rattle.pol_relation.proofs.NameLemmas.{last_of-named, named_relations-last, named_relations-kept, IsLanguage-last}
 use Rattle.pol_relation.proofs.language.Language.insert.Goals as goal
 use Rattle.pol_relation.proofs.language.Language.insert.Goals.{in-Some, in-None}
@@ -19,7 +19,7 @@ insert-requires c =
 some : (c : goal.Joined-last_mut) → 0 < length c.self.inside.relations.entries
 some c =
     let named = rw (← c.self.view_is) at c.requires.some in
-    omega (arith, named, length-map {B = List ℕ × RelationView} c.self.inside.relations.entries (λ e. (e.0.items, e.1)))
+    omega (arith, named, length-map {B = NamedRelation} c.self.inside.relations.entries (λ e. named_entry e))
 
 pub invariant_of-self : goal.invariant_of-self
 invariant_of-self c = elim c.match-last_mut.branch [

@@ -1,6 +1,6 @@
 use Rattle.std.proofs.Common.{sym, subst}
-use Rattle.pol_defs.specs.Relations.{IsRelationOver}
-use Rattle.pol_defs.proofs.RelationLemmas.{IsRelationOver-relation_of}
+use Rattle.pol_relation.specs.Relations.{IsRelationOver}
+use Rattle.pol_relation.proofs.RelationLemmas.{IsRelationOver-relation_of}
 use Rattle.pol_relation.proofs.NameLemmas.{relation-at}
 use Rattle.pol_relation.proofs.language.Language.relation.Goals as goal
 

@@ -1,5 +1,5 @@
 use Rattle.std.proofs.Common.{◌≡◌, ◌^◌, arith}
-use Rattle.pol_defs.proofs.LimitLemmas.{few_vectors}
+use Rattle.pol_relation.proofs.SumLemmas.{few_vectors}
 use Rattle.pol_relation.proofs.language.Language.set_vectors.Goals as goal
 
 pub pow-requires : goal.pow-requires

@@ -1,5 +1,5 @@
 use Rattle.std.proofs.Common.{◌≡◌, ◌*◌, ◌≤◌, take}
-use Rattle.pol_defs.specs.Files.{subset_weight_of}
+use Rattle.pol_relation.specs.Weights.{subset_weight_of}
 use Rattle.pol_relation.proofs.language.Language.subset_weight.Given as goal
 
 abbrev pub invariant-loop-i : goal.invariant-loop-i

@@ -1,5 +1,5 @@
 use Rattle.std.proofs.Common.{◌≡◌, ◌-◌, ◌^◌, min, take}
-use Rattle.pol_defs.specs.Files.{weight_of}
+use Rattle.pol_relation.specs.Weights.{weight_of}
 use Rattle.pol_relation.proofs.language.Language.weight.Given as goal
 
 abbrev pub invariant-loop-i : goal.invariant-loop-i

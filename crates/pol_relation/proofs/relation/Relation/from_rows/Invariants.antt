@@ -1,5 +1,5 @@
 use Rattle.std.proofs.Common.{◌/◌, length}
-use Rattle.pol_defs.specs.Relations.{tuples_in}
+use Rattle.pol_relation.specs.Relations.{tuples_in}
 use Rattle.pol_relation.proofs.TupleLemmas.{IsReading}
 use Rattle.pol_relation.proofs.relation.Relation.from_rows.Given as goal
 

@@ -1,5 +1,5 @@
 use Rattle.std.proofs.Common.{sym}
-use Rattle.pol_defs.proofs.RelationLemmas.{with_row-there, AreLong-tuples, IsRelation-with_row}
+use Rattle.pol_relation.proofs.RelationLemmas.{with_row-there, AreLong-tuples, IsRelation-with_row}
 use Rattle.pol_relation.proofs.relation.Relation.insert.Goals as goal
 
 -- the row goes to its place

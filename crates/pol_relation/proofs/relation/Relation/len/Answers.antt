@@ -1,5 +1,5 @@
 use Rattle.std.proofs.Common.{arith}
-use Rattle.pol_defs.proofs.RelationLemmas.{length-rows_few}
+use Rattle.pol_relation.proofs.RelationLemmas.{length-rows_few}
 use Rattle.pol_relation.proofs.relation.Relation.len.Goals as goal
 
 pub overflow_cast-result : goal.overflow_cast-result

@@ -3,8 +3,9 @@ use Rattle.std.specs.Cmp.Lexicographic.{slice_cmp}
 use Rattle.std.specs.Ordering.{nat_cmp}
 use Rattle.std.proofs.lemmas.Fn.{always_returns_same}
 use Rattle.std.specs.List.{insert}
-use Rattle.pol_defs.specs.Relations.{with_row}
-use Rattle.pol_defs.proofs.RelationLemmas.{AreLong-tuples, searched_rows, IsPlaceOf, IsGapFor}
+use Rattle.pol_relation.specs.Relations.{with_row}
+use Rattle.pol_relation.proofs.RelationLemmas.{AreLong-tuples, searched_rows, IsGapFor}
+use Rattle.pol_base.proofs.LookupLemmas.{IsPlaceOf}
 use Rattle.pol_relation.proofs.relation.Relation.search.Goals as goal
 
 -- the closure compares a row with the tuple

@@ -1,5 +1,5 @@
 use Rattle.std.proofs.Common.{arith}
-use Rattle.pol_defs.proofs.LineLemmas.{length-tokens_of-le}
+use Rattle.pol_text.proofs.LineLemmas.{length-tokens_of-le}
 use Rattle.pol_text.proofs.lines.Line.tokens.Goals as goal
 
 -- the text of the line is not longer than a `usize` tells

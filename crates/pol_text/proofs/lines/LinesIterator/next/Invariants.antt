@@ -1,6 +1,6 @@
 -- the significant lines that are left are those at the start, and the numbers fit
 use Rattle.std.proofs.Common.{◌≡◌, ◌+◌, ◌<◌, ◌^◌, length}
-use Rattle.pol_defs.specs.Lines.{lines_of, significant_among}
+use Rattle.pol_text.specs.Lines.{lines_of, significant_among}
 use Rattle.pol_text.proofs.lines.LinesIterator.next.Given as goal
 
 abbrev pub invariant-loop-self : goal.invariant-loop-self

@@ -1,7 +1,7 @@
 use Rattle.std.proofs.Common.{◌≡◌, ◌<◌, ◌∙◌, sym, refl, length, drop, arith, rules}
 use Rattle.std.specs.List.{position_or_len}
 use Rattle.std.proofs.lemmas.Bool.Decides.{nat_tests}
-use Rattle.pol_defs.proofs.LineLemmas.{is_solid, tokens_of-none, tokens_of-next}
+use Rattle.pol_text.proofs.LineLemmas.{is_solid, tokens_of-none, tokens_of-next}
 use Rattle.pol_text.proofs.tokens.TokensIterator.next.Goals as goal
 
 pub returns-then-is_empty-clause-steps : goal.returns-then-is_empty-clause-steps

@@ -1,0 +1,4 @@
+pub mod CellLemmas
+pub mod MemberLemmas
+pub mod OrderLemmas
+pub mod LookupLemmas

@@ -1,0 +1,78 @@
+-- What a run has to write and how it ends, for the words of the command line and the bytes of the input.
+use Rattle.std.specs.Prelude.{◌≡◌, ℕ, ◌<◌, ◌≤◌, List, [], ◌∷◌, ◌++◌, length, Some, None, Ok, Err, codes}
+use Rattle.pol_text.specs.declared.refusal.Refusal.{Refusal}
+use Rattle.pol_text.specs.declared.word.Word.TheVariants.{AfterEnd, TooLong}
+use Rattle.pol_text.specs.Refusals.{refusal_line}
+use Rattle.pol_lang.specs.Limits.{most_bytes}
+use Rattle.pol_lang.specs.Files.{Parsed}
+use Rattle.pol_lang.specs.Grammar.{parse, extra}
+use Rattle.pol_cli.specs.Reports.{IsReport, IsBegunReport}
+use Rattle.pol_cli.specs.declared.ended.Ended.{Ended}
+use Rattle.pol_cli.specs.declared.ended.Ended.TheVariants as ended
+
+-- what is written where the words ask for nothing
+abbrev pub usage_line : List ℕ
+usage_line = codes "usage: polyanna report | polyanna check | polyanna gen N\n"
+
+-- the words that ask for a report
+abbrev pub report_words : List (List ℕ)
+report_words = codes "report" ∷ []
+
+-- the words ask for a report
+abbrev pub AsksReport : List (List ℕ) → Type 0
+AsksReport words = words ≡ report_words
+
+-- the words ask for something
+abbrev pub AreKnown : List (List ℕ) → Type 0
+AreKnown words = AsksReport words
+
+-- the words ask for something that reads the input
+abbrev pub AskInput : List (List ℕ) → Type 0
+AskInput words = AsksReport words
+
+-- the text and the ending are those of the refusal
+pub record IsRefused (refusal : Refusal) (text : List ℕ) (ending : Ended) : Type 0 where
+  pub text_is : text ≡ refusal_line refusal
+  pub ending_is : ending ≡ ended.Refused refusal
+
+-- the bytes are few enough and begin with the file
+pub record Begin (bytes : List ℕ) (found : Parsed) : Type 0 where
+  pub few : length bytes ≤ most_bytes
+  pub file_is : parse bytes ≡ Ok found
+
+-- the file alone, with no significant line behind it
+pub record IsAlone (bytes : List ℕ) (found : Parsed) : Type 0 where
+  pub begins : Begin bytes found
+  pub nothing_more : extra bytes found.place found.line ≡ None
+
+-- the text has to be written, and the run ends so
+pub data IsDue (words : List (List ℕ)) (bytes text : List ℕ) (ending : Ended) : Type 0 where
+  usage : ¬ AreKnown words
+      → text ≡ usage_line
+      → ending ≡ ended.Usage
+      → IsDue words bytes text ending
+  too_long : AskInput words → most_bytes < length bytes
+      → IsRefused (record { line = 0; word = TooLong }) text ending
+      → IsDue words bytes text ending
+  refused : AskInput words → length bytes ≤ most_bytes → (refusal : Refusal) → parse bytes ≡ Err refusal
+      → IsRefused refusal text ending
+      → IsDue words bytes text ending
+  more : AsksReport words → (found : Parsed) → Begin bytes found
+      → (line : ℕ) → extra bytes found.place found.line ≡ Some line
+      → IsRefused (record { line = line; word = AfterEnd }) text ending
+      → IsDue words bytes text ending
+  reported : AsksReport words → (found : Parsed) → IsAlone bytes found
+      → IsReport found.file text
+      → ending ≡ ended.Done
+      → IsDue words bytes text ending
+
+-- what may stand written when a run is cut off: nothing, the beginning of a text that is due, or that of a begun report
+pub data IsFront (words : List (List ℕ)) (bytes front : List ℕ) : Type 0 where
+  nothing : front ≡ [] → IsFront words bytes front
+  due : (text rest : List ℕ) (ending : Ended) → IsDue words bytes text ending
+      → text ≡ front ++ rest
+      → IsFront words bytes front
+  begun : AsksReport words → (found : Parsed) → IsAlone bytes found
+      → (text rest : List ℕ) → IsBegunReport found.file text
+      → text ≡ front ++ rest
+      → IsFront words bytes front

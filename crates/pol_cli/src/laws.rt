@@ -1,0 +1,30 @@
+ghost use Rattle.pol_cli.specs.Laws.{ReportsAreWhole, BegunReportsAreWhole, ClassLinesAreTold};
+ghost use Rattle.pol_cli.specs.Laws.{SolvableAreSolved, OthersAreRefuted, UnservedAreUndecided, OwedAreItems};
+ghost use Rattle.pol_cli.specs.Laws.{DueIsDecided, FilesAreReported, OthersAreRefused, FrontsOfUsage, FrontsOfReports};
+ghost use Rattle.pol_cli.specs.Laws.{InputsAreRead, FaultsReadFew, ReadFaultsReadFewer, StatusTells, ZeroIsDone, UnflushedIsCutOff};
+
+/// What a reader of a report may rely on, whole or begun.
+pub fn report_laws()
+    ensures whole { ReportsAreWhole }
+    ensures begun { BegunReportsAreWhole }
+    ensures classes { ClassLinesAreTold }
+    ensures solved { SolvableAreSolved }
+    ensures refuted { OthersAreRefuted }
+    ensures undecided { UnservedAreUndecided }
+    ensures owed { OwedAreItems }
+{}
+
+/// What a reader of what a run read and wrote, and of its status, may rely on.
+pub fn run_laws()
+    ensures decided { DueIsDecided }
+    ensures reported { FilesAreReported }
+    ensures refused { OthersAreRefused }
+    ensures usage { FrontsOfUsage }
+    ensures fronts { FrontsOfReports }
+    ensures read { InputsAreRead }
+    ensures cut_off { FaultsReadFew }
+    ensures read_fault { ReadFaultsReadFewer }
+    ensures statuses { StatusTells }
+    ensures zero { ZeroIsDone }
+    ensures unflushed { UnflushedIsCutOff }
+{}

@@ -1,6 +1,0 @@
-use Rattle.pol_defs.proofs.LogFaults.{IsPast}
-use Rattle.pol_nogood.proofs.checking.check_log.Given as goal
-
--- the steps so far have no fault
-abbrev pub invariant-loop-s : goal.invariant-loop-s
-invariant-loop-s l = IsPast l.lang l.inst l.log l.s

@@ -1,0 +1,3 @@
+pub mod ConstantLemmas
+pub mod LineLemmas
+pub mod IdentityLemmas

@@ -1,0 +1,5 @@
+pub mod ReadingLemmas
+pub mod LinePlaces
+pub mod LineLemmas
+pub mod PrintedLines
+pub mod TextLemmas
