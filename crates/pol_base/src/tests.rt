@@ -1,4 +1,7 @@
-use crate::{ClassName, Domain, NoMemory, Numbers, Values, cell_of, cells, class_of, digit};
+use crate::{
+    ClassName, Domain, NoMemory, Numbers, Values, advance, cell_of, cells, class_of, digit,
+    full_mask, has_value, lowest_value, value_mask, without,
+};
 use std::test::Fail;
 
 #[test]
@@ -78,4 +81,35 @@ fn lists_grow(rt: HostRuntime) -> Result<(), NoMemory> {
     assert_eq!(rt; numbers.copy()?.as_slice(), numbers.as_slice());
     assert_eq!(rt; Numbers::new(rt.alloc()).as_slice(), [].as_slice());
     Ok(())
+}
+
+#[test]
+fn values_of_a_mask(rt: HostRuntime) -> Result<(), Fail> {
+    for (size, all) in [(1, 1), (2, 3), (5, 31)] {
+        let d = Domain::new(size).ok_or("a domain")?;
+        assert_eq!(rt; full_mask(d), all, "at {size}");
+    }
+    let mask = 0b10110u8;
+    assert_eq!(rt; lowest_value(mask), 1);
+    assert!(rt; has_value(mask, 2) && !has_value(mask, 3));
+    assert_eq!(rt; without(mask, 4), 0b00110);
+    assert_eq!(rt; without(mask, 3), mask);
+    assert_eq!(rt; value_mask(4), 0b10000);
+    Ok(())
+}
+
+#[test]
+fn lists_in_their_order(rt: HostRuntime) {
+    let mut digits = [0u32, 1];
+    for (next, more) in [
+        ([1, 0], true),
+        ([1, 1], true),
+        ([0, 0], false),
+        ([0, 1], true),
+    ] {
+        assert!(rt; digits.iter().all(|digit| *digit < 2));
+        assert_eq!(rt; advance(&mut digits, 2), more);
+        assert_eq!(rt; digits, next);
+    }
+    assert_eq!(rt; advance(&mut [], 0), false);
 }
