@@ -1,5 +1,5 @@
 -- The line of each class for a language, and the chosen class.
-use Rattle.std.specs.Prelude.{◌≡◌, ℕ, ◌<◌, List, [], ◌∷◌, ◌++◌, Option, Some, None, All}
+use Rattle.std.specs.Prelude.{◌≡◌, ℕ, ◌<◌, List, [], ◌∷◌, ◌++◌, Option, Some, None, All, ⊤}
 use Rattle.pol_base.specs.Least.{AnswersLeast}
 use Rattle.pol_base.specs.declared.class_name.ClassName.{ClassName}
 use Rattle.pol_base.specs.declared.class_name.ClassName.TheVariants.{Constant, Semilattice, SetFunction, Majority, Nu4, Affine, Maltsev}
@@ -45,6 +45,12 @@ pub data Line : Type 0 where
   Beyond : Line
   Sought : Option (List ℕ) → Line
 
+-- the line holds a table
+abbrev pub HoldsTable : Line → Type 0
+HoldsTable Beyond = ⊥
+HoldsTable (Sought None) = ⊥
+HoldsTable (Sought (Some cells)) = ⊤
+
 -- the line of the class: `beyond` exactly where the language is too large; else its least table, and none exactly
 -- where there is none
 abbrev pub ClassLine : ClassName → LanguageView → Line → Type 0
@@ -58,17 +64,21 @@ pub record Serves (lang : LanguageView) (class : ClassName) : Type 0 where
 
 -- the classes whose lines are sought, in the order in which they are tried
 abbrev pub built : List ClassName
-built = Constant ∷ []
+built = Constant ∷ Majority ∷ Maltsev ∷ []
 
--- the first of the classes that serves
-pub record IsFirstServing (lang : LanguageView) (classes : List ClassName) (class : ClassName) : Type 0 where
+-- the other classes
+abbrev pub not_built : List ClassName
+not_built = Semilattice ∷ SetFunction ∷ Nu4 ∷ Affine ∷ []
+
+-- the first of the classes of which it holds
+pub record IsFirstOf (P : ClassName → Type 0) (classes : List ClassName) (class : ClassName) : Type 0 where
   pub before : List ClassName
   pub after : List ClassName
   pub split : classes ≡ before ++ class ∷ after
-  pub serves : Serves lang class
-  pub none_before : All (λ other. ¬ Serves lang other) before
+  pub holds : P class
+  pub none_before : All (λ other. ¬ P other) before
 
--- the chosen class, and none exactly where no class serves
+-- the chosen class, the first that serves, and none exactly where no class serves
 abbrev pub Chooses : LanguageView → Option ClassName → Type 0
 Chooses lang None = All (λ class. ¬ Serves lang class) built
-Chooses lang (Some class) = IsFirstServing lang built class
+Chooses lang (Some class) = IsFirstOf (Serves lang) built class

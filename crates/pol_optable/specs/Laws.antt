@@ -1,13 +1,15 @@
 -- What a reader of class lines may rely on.
-use Rattle.std.specs.Prelude.{◌≡◌, ◌<◌, ◌↔◌, ℕ, ◌^◌, ◌-◌, length, List, [], ◌∷◌, replicate, slice_index, Option, Some, None}
+use Rattle.std.specs.Prelude.{◌≡◌, ◌<◌, ◌↔◌, ℕ, ◌^◌, ◌-◌, length, List, [], ◌∷◌, replicate, slice_index, Option, Some, None, All}
 use Rattle.pol_base.specs.declared.class_name.ClassName.{ClassName}
 use Rattle.pol_base.specs.declared.class_name.ClassName.TheVariants.{Constant, Semilattice, SetFunction, Majority, Nu4, Affine, Maltsev}
 use Rattle.pol_relation.specs.Relations.{LanguageView, IsLanguage}
 use Rattle.pol_relation.specs.Weights.{weight_of}
 use Rattle.pol_optable.specs.Operations.{Operation, operation_of, value_at}
 use Rattle.pol_optable.specs.Constants.{ClosedUnder}
-use Rattle.pol_optable.specs.ClassLines.{IsTableOf, Line, ClassLine, Serves, IsFirstServing, Chooses}
+use Rattle.pol_optable.specs.ClassLines.{IsTableOf, Line, ClassLine, Serves, IsFirstOf, Chooses, built}
 use Rattle.pol_optable.specs.ClassLines.Line.{Beyond, Sought}
+use Rattle.pol_optable.specs.Choices.{FirstFound, AreLines}
+use Rattle.pol_optable.specs.declared.classes.Classes.{Classes}
 
 -- a class has at most one line for a language
 abbrev pub LineIsOne : Type 0
@@ -62,15 +64,23 @@ abbrev pub EarlierIsChosen : Type 0
 EarlierIsChosen =
     (lang : LanguageView) (class : ClassName) (later : List ClassName)
     → Serves lang class
-    → IsFirstServing lang (class ∷ later) class
+    → IsFirstOf (Serves lang) (class ∷ later) class
 
 -- a class that does not serve is passed over
 abbrev pub OtherIsPassedOver : Type 0
 OtherIsPassedOver =
     (lang : LanguageView) (class chosen : ClassName) (later : List ClassName)
     → ¬ Serves lang class
-    → IsFirstServing lang later chosen
-    → IsFirstServing lang (class ∷ later) chosen
+    → IsFirstOf (Serves lang) later chosen
+    → IsFirstOf (Serves lang) (class ∷ later) chosen
+
+-- where the lines of the built classes were found, the first class of which there is a table is the chosen one
+abbrev pub FoundIsChosen : Type 0
+FoundIsChosen =
+    (lang : LanguageView) (classes : Classes) (first : Option ClassName)
+    → AreLines lang classes
+    → FirstFound classes first
+    → Chooses lang first
 
 -- where a language is closed under a value, `constant` is chosen
 abbrev pub ConstantIsChosen : Type 0
@@ -82,12 +92,11 @@ ConstantIsChosen =
     → ((b : ℕ) → b < a → ¬ ClosedUnder lang b)
     → Chooses lang (Some Constant)
 
--- where a language is closed under no value, no class is chosen
+-- where the line of no built class holds a table, no class is chosen
 abbrev pub NoneIsChosen : Type 0
 NoneIsChosen =
     (lang : LanguageView)
-    → IsLanguage lang
-    → ((a : ℕ) → a < lang.domain → ¬ ClosedUnder lang a)
+    → All (λ class. ClassLine class lang (Sought None)) built
     → Chooses lang None
 
 -- f(x, x, y) = f(x, y, x) = f(y, x, x) = x

@@ -2,5 +2,9 @@ pub mod Operations
 pub mod SetFunctions
 pub mod Identities
 pub mod ClassLines
+pub mod Tables
+pub mod Breaks
+pub mod RowSets
+pub mod Choices
 pub mod Constants
 pub mod Laws

@@ -2,7 +2,7 @@ ghost use Rattle.pol_optable.specs.Laws.{LineIsOne, BeyondIsNu4Alone};
 ghost use Rattle.pol_optable.specs.Laws.{ConstantLineFound, ConstantLineNone, ConstantLineTells};
 ghost use Rattle.pol_optable.specs.Laws.{TableIsLong, MajorityTable};
 ghost use Rattle.pol_optable.specs.Laws.{ChoiceIsOne, EarlierIsChosen, OtherIsPassedOver};
-ghost use Rattle.pol_optable.specs.Laws.{ConstantIsChosen, NoneIsChosen};
+ghost use Rattle.pol_optable.specs.Laws.{FoundIsChosen, ConstantIsChosen, NoneIsChosen};
 
 /// A language has one line of each class, and `beyond` alone where the sum of its rows is too large.
 pub fn line_laws()
@@ -22,6 +22,7 @@ pub fn choice_laws()
     ensures choice { ChoiceIsOne }
     ensures earlier { EarlierIsChosen }
     ensures passed_over { OtherIsPassedOver }
+    ensures found { FoundIsChosen }
     ensures constant { ConstantIsChosen }
     ensures none { NoneIsChosen }
 {}
