@@ -1,0 +1,5 @@
+pub mod RuleLemmas
+pub mod ConstantLemmas
+pub mod ForcedLemmas
+pub mod NearUnanimityLemmas
+pub mod MaltsevLemmas

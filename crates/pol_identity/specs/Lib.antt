@@ -1,0 +1,9 @@
+pub mod Rules
+pub mod CellLaws
+pub mod ConstantRule
+pub mod ConstantLaws
+pub mod NearUnanimityRule
+pub mod NearUnanimityLaws
+pub mod MaltsevRule
+pub mod MaltsevLaws
+pub mod Laws

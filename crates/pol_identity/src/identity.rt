@@ -1,0 +1,71 @@
+ghost use Rattle.std.specs.Prelude.{◌≡◌, ℕ, ◌^◌, ◌<◌, ◌≤◌, ◌↔◌, List, IsTrue};
+ghost use Rattle.pol_base.specs.Masks.{IsWithin, single_masks};
+ghost use Rattle.pol_optable.specs.Operations.{Operation, operation_of};
+ghost use Rattle.pol_optable.specs.Tables.{IsOpTable, IsPart};
+ghost use Rattle.pol_identity.specs.Rules.{ObeysAll, IsRule};
+ghost use Rattle.pol_identity.specs.declared.identity.CellRule.{CellRule};
+
+use pol_base::Domain;
+use pol_optable::{OpTable, PartTable};
+
+/// What an identity asks of one cell: nothing, a value, or the value of a lower cell.
+#[derive(Clone, Copy, Debug, PartialEq, Eq)]
+pub enum CellRule {
+    Free,
+    Value(u8),
+    SameAs(u32),
+}
+
+/// An identity of operations of `K` arguments.
+pub trait Identity<const K: usize> {
+    /// The operations that satisfy it.
+    ghost satisfies: { Self → Operation → Type 0 };
+
+    /// The domains for which it is defined.
+    ghost suits: { Self → ℕ → Type 0 };
+
+    /// The rule of a cell in a domain.
+    ghost rule_of: { Self → ℕ → ℕ → CellRule };
+
+    /// The rule of the cell. An operation that satisfies the identity obeys the rule of each cell.
+    fn rule(&self, d: Domain, cell: u32) -> CellRule
+        requires suited { suits self.now d }
+        requires few { d ^ K ≤ 4096 }
+        requires known { cell < d ^ K }
+        ensures rule { result ≡ rule_of self.now d cell };
+
+    /// Whether no table within the masks satisfies it, as far as can be told. For masks of one value
+    /// each whose table obeys every rule it is told exactly.
+    fn fails_in(&self, d: Domain, masks: &[u8]) -> bool
+        requires suited { suits self.now d }
+        requires part { IsPart d K masks.now }
+        ensures none_within { IsTrue result → (cells : List ℕ) → IsWithin masks.now cells
+            → ¬ satisfies self.now (operation_of d K cells) }
+        ensures decides { (cells : List ℕ) → IsOpTable K (operation_of d K cells)
+            → masks.now ≡ single_masks cells → ObeysAll cells (rule_of self.now d) → ¬ IsTrue result
+            → satisfies self.now (operation_of d K cells) };
+
+    /// Whether the operation satisfies it.
+    fn holds(&self, t: &OpTable<K>) -> bool
+        requires suited { suits self.now t.now.domain }
+        ensures satisfies { IsTrue result ↔ satisfies self.now t.now };
+
+    /// The same of a part as of its masks.
+    final fn fails(&self, part: &PartTable<'_, K>) -> bool
+        requires suited { suits self.now part.now.domain }
+        ensures none_within { IsTrue result → (cells : List ℕ) → IsWithin part.now.masks cells
+            → ¬ satisfies self.now (operation_of part.now.domain K cells) }
+        ensures decides { (cells : List ℕ) → IsOpTable K (operation_of part.now.domain K cells)
+            → part.now.masks ≡ single_masks cells → ObeysAll cells (rule_of self.now part.now.domain)
+            → ¬ IsTrue result
+            → satisfies self.now (operation_of part.now.domain K cells) }
+    {
+        self.fails_in(part.domain(), part.masks())
+    }
+
+    /// A rule names a value of the domain, or a lower cell.
+    ghost ruled: { (it : Self) (d cell : ℕ) → 1 ≤ d → suits it d → cell < d ^ K → IsRule d cell (rule_of it d cell) };
+
+    /// An operation that satisfies the identity obeys every rule.
+    ghost obeys: { (it : Self) (f : Operation) → IsOpTable K f → suits it f.domain → satisfies it f → ObeysAll f.cells (rule_of it f.domain) };
+}
