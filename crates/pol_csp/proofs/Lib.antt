@@ -1,0 +1,9 @@
+pub mod Narrowing
+pub mod Revising
+pub mod Searching
+pub mod Wording
+pub mod VariableLemmas
+pub mod SharedMasks
+pub mod SpreadLemmas
+pub mod GivenLemmas
+pub mod ProblemLemmas

@@ -1,0 +1,5 @@
+pub mod Narrowing
+pub mod Searching
+pub mod Variables
+pub mod Words
+pub mod Problems
