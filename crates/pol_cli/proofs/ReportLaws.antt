@@ -1,9 +1,8 @@
 -- What a reader of a report may rely on.
-use Rattle.std.proofs.Common.{◌≡◌, ℕ, ◌+◌, ◌<◌, ◌≤◌, ◌⊎◌, inl, inr, List, [], ◌++◌, length, map, get_or, slice_get, Some, None, sym, ap, ◌∙◌, subst, arith, length-append}
+use Rattle.std.proofs.Common.{◌≡◌, ℕ, ◌+◌, ◌<◌, ◌≤◌, ◌⊎◌, inl, inr, List, ◌++◌, length, map, get_or, slice_get, Some, None, sym, ap, ◌∙◌, subst, arith, length-append}
 use Rattle.std.specs.Prelude.{IsSomeAnd, MatchOption}
 use Rattle.std.specs.List.{AllZip}
 use Rattle.std.proofs.lemmas.List.{length-map, get_or_append_left, get_or-append-add, get_or-map}
-use Rattle.std.proofs.lemmas.List.Elements.{All-head, All-cons, All-nil}
 use Rattle.std.proofs.lemmas.Option.{slice_get-get_or}
 use Rattle.std.proofs.lemmas.Slice.Zip.{AllZip-left, AllZip-long}
 use Rattle.pol_base.specs.declared.class_name.ClassName.{ClassName}
@@ -14,10 +13,11 @@ use Rattle.pol_nogood.specs.Logs.{StepView}
 use Rattle.pol_nogood.specs.Answers.{IsCertificate}
 use Rattle.pol_optable.specs.ClassLines.{Line, ClassLine, Serves, built}
 use Rattle.pol_optable.specs.ClassLines.Line.{Sought}
-use Rattle.pol_optable.proofs.LineLemmas.{one_line, one_choice, first_of_all}
+use Rattle.pol_optable.proofs.LineLemmas.{one_line, one_choice, none_first, not_serving}
 use Rattle.pol_lang.specs.Files.{FileView, no_instance, instance_of}
 use Rattle.pol_cli.specs.Items.{last_line, class_line, undecided_item, yes_item, no_item}
 use Rattle.pol_cli.specs.Reports.{Subject, subjects, IsItem, IsClassItem, IsInstanceItem, IsLogItem, Owes, IsReport, IsBegunReport}
+use Rattle.pol_cli.proofs.ReportLemmas.{constant_chosen}
 use Rattle.pol_cli.specs.Laws.{class_at, IsWhole, IsBegunWhole}
 
 -- what is right of the subject at a place stands there
@@ -74,23 +74,44 @@ begun_whole file text begun =
           subst (λ subject. IsSomeAnd (slice_get has.items (length built + i)) (IsItem file.language subject)) (same (length built + i) stands ∙ subject_of_instance file i d inside) (at_place (IsItem file.language) begun.first has.items (length built + i) d has.right stands);
     }
 
--- the class `constant` serves where its line holds a table, and it is the first
-constant_first : (lang : LanguageView) (cells : List ℕ) → ClassLine Constant lang (Sought (Some cells)) → Serves lang Constant
-constant_first lang cells line = record { cells = cells; line = line }
-
-served_answered : (lang : LanguageView) (inst : InstanceView) (text cells : List ℕ) → ClassLine Constant lang (Sought (Some cells)) → IsInstanceItem lang inst text → IsLogItem 1 Constant lang inst text
-served_answered lang inst text cells line (IsInstanceItem.unserved none is) = absurd (All-head (λ class. ¬ Serves lang class) Constant [] none (constant_first lang cells line))
+-- where the line of the class `constant` holds a table, its solver answers
+served_answered :
+    (lang : LanguageView) (inst : InstanceView) (text cells : List ℕ)
+    → ClassLine Constant lang (Sought (Some cells))
+    → IsInstanceItem lang inst text
+    → IsLogItem 1 Constant lang inst text
+served_answered lang inst text cells line (IsInstanceItem.unserved none is) =
+    absurd (none_first (Serves lang) built Constant none (constant_chosen lang cells line))
 served_answered lang inst text cells line (IsInstanceItem.served class chosen owes) =
-    let same = one_choice lang (Some class) (Some Constant) chosen (first_of_all lang Constant [] (constant_first lang cells line)) in
+    let same = one_choice lang (Some class) (Some Constant) chosen (constant_chosen lang cells line) in
     let is : class ≡ Constant = cc in
     subst (λ some. Owes some lang inst text) is owes
 
-pub unserved_undecided : (lang : LanguageView) (inst : InstanceView) (text : List ℕ) → ClassLine Constant lang (Sought None) → IsInstanceItem lang inst text → text ≡ undecided_item inst.name
+-- a class that serves, and is not `constant`, leaves an instance undecided
+other_undecided :
+    (class : ClassName) (lang : LanguageView) (inst : InstanceView) (text : List ℕ)
+    → ¬ Serves lang Constant
+    → Serves lang class
+    → Owes class lang inst text
+    → text ≡ undecided_item inst.name
+other_undecided Constant lang inst text none serves owes = absurd (none serves)
+other_undecided Semilattice lang inst text none serves owes = owes
+other_undecided SetFunction lang inst text none serves owes = owes
+other_undecided Majority lang inst text none serves owes = owes
+other_undecided Nu4 lang inst text none serves owes = owes
+other_undecided Affine lang inst text none serves owes = owes
+other_undecided Maltsev lang inst text none serves owes = owes
+
+-- where the line of the class `constant` holds none, an instance is undecided
+pub unserved_undecided :
+    (lang : LanguageView) (inst : InstanceView) (text : List ℕ)
+    → ClassLine Constant lang (Sought None)
+    → IsInstanceItem lang inst text
+    → text ≡ undecided_item inst.name
 unserved_undecided lang inst text line (IsInstanceItem.unserved none is) = is
 unserved_undecided lang inst text line (IsInstanceItem.served class chosen owes) =
-    let none = All-cons (λ some. ¬ Serves lang some) Constant [] (λ serves. line.1 serves.cells serves.line.1.holds) (All-nil (λ some. ¬ Serves lang some)) in
-    let same = one_choice lang (Some class) None chosen none in
-    absurd (cc)
+    let not = not_serving Constant lang (Sought None) line (λ holds. holds) in
+    other_undecided class lang inst text not chosen.holds owes
 
 pub class_lines_told : (lang : LanguageView) (class : ClassName) (line : Line) (text : List ℕ) → ClassLine class lang line → IsClassItem lang class text → text ≡ class_line class line
 class_lines_told lang class line text is item = item.text_is ∙ ap (λ some. class_line class some) (one_line class lang item.line line item.is_line is)

@@ -1,4 +1,4 @@
-ghost use Rattle.std.specs.Prelude.{◌≡◌, ◌++◌, [], ◌∷◌, length, codes, decimal};
+ghost use Rattle.std.specs.Prelude.{◌≡◌, ◌++◌, [], ◌∷◌, length, option_map, codes, decimal};
 ghost use Rattle.pol_base.specs.Names.{class_word};
 ghost use Rattle.pol_text.specs.Texts.{Puts, joined, spaced_texts, printed_line};
 ghost use Rattle.pol_nogood.specs.Steps.{step_named};
@@ -7,15 +7,16 @@ ghost use Rattle.pol_cli.specs.Items.{class_line, line_tokens, instance_line, un
 
 use pol_base::{ClassName, NoMemory, Numbers, Values};
 use pol_nogood::{Log, Nogood, Step};
+use pol_optable::OpTable;
 use pol_text::{put_number, put_numbers, put_spaced, put_token, put_values};
 
-/// Appends the line of the class: its table, or `none`.
-pub(crate) fn put_class_line(
+/// Appends the line of the class: the cells of its table, or `none`.
+pub(crate) fn put_class_line<const K: usize>(
     out: &mut Values,
     class: ClassName,
-    table: &Option<Values>,
+    table: &Option<OpTable<K>>,
 ) -> Result<(), NoMemory>
-    ensures puts { Puts result out.old out.new (class_line class (Sought table.now)) }
+    ensures puts { Puts result out.old out.new (class_line class (Sought (option_map (λ f. f.cells) table.now))) }
 {
     out.append(b"class")?;
     put_token(out, class.word())?;
@@ -24,16 +25,17 @@ pub(crate) fn put_class_line(
 }
 
 /// Appends the cells of the table, each behind a space, or `none`.
-fn put_table(out: &mut Values, table: &Option<Values>) -> Result<(), NoMemory>
-    ensures puts { Puts result out.old out.new (spaced_texts (line_tokens (Sought table.now))) }
+fn put_table<const K: usize>(out: &mut Values, table: &Option<OpTable<K>>) -> Result<(), NoMemory>
+    ensures puts { Puts result out.old out.new
+        (spaced_texts (line_tokens (Sought (option_map (λ f. f.cells) table.now)))) }
 {
     match table {
-        Some(cells) => put_values(out, cells.as_slice()),
+        Some(table) => put_values(out, table.cells()),
         None => put_token(out, b"none"),
     }
 }
 
-/// Appends the item of an instance that no class serves.
+/// Appends the item of an instance that no class with a solver serves.
 pub(crate) fn put_undecided(out: &mut Values, name: &[u8]) -> Result<(), NoMemory>
     ensures puts { Puts result out.old out.new (undecided_item name.now) }
 {

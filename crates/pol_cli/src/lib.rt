@@ -5,12 +5,10 @@
 mod ended;
 mod items;
 mod laws;
-mod line_of_class;
 mod report;
 mod solving;
 mod top;
 
 pub use ended::{Ended, ending_without_words};
 pub use laws::{report_laws, run_laws};
-pub use line_of_class::constant_line;
 pub use top::run;

@@ -1,17 +1,21 @@
-ghost use Rattle.std.specs.Prelude.{map, Some, OnOk, IfOk};
+ghost use Rattle.std.specs.Prelude.{◌≡◌, ◌++◌, map, Some, OnOk, IfOk};
 ghost use Rattle.pol_base.specs.declared.class_name.ClassName.TheVariants.{Constant};
+ghost use Rattle.pol_text.specs.Texts.{joined};
 ghost use Rattle.pol_relation.specs.Relations.{IsLanguage};
 ghost use Rattle.pol_relation.specs.Instances.{Fits};
 ghost use Rattle.pol_optable.specs.ClassLines.{ClassLine, built};
 ghost use Rattle.pol_optable.specs.ClassLines.Line.{Sought};
+ghost use Rattle.pol_optable.specs.Choices.{AreLines, line_in};
+ghost use Rattle.pol_cli.specs.Items.{class_line};
 ghost use Rattle.pol_cli.specs.Reports.{Subject, subjects, HasItems, AppendsItem, IsReport};
 
 use crate::items::{put_class_line, put_no, put_undecided, put_yes};
-use crate::line_of_class::constant_line;
 use crate::solving::solve_constant;
 use pol_base::{ClassName, NoMemory, Values};
+use pol_classify::classify;
 use pol_lang::File;
 use pol_nogood::LogAnswer;
+use pol_optable::Classes;
 use pol_relation::{Instance, Language};
 use std::alloc::Global;
 
@@ -19,12 +23,22 @@ use std::alloc::Global;
 pub(crate) fn report_text(alloc: Global, file: &File) -> Result<Values, NoMemory>
     ensures report { IfOk result (IsReport file.now) }
 {
-    let table = constant_line(alloc, file.lang())?;
+    let classes = classify(alloc, file.lang())?;
     let mut text = Values::from_slice(alloc, b"polyanna-report 1\n")?;
-    put_class_line(&mut text, ClassName::Constant, &table)?;
-    put_instances(alloc, &mut text, file, &table)?;
+    put_class_lines(&mut text, &classes)?;
+    put_instances(alloc, &mut text, file, &classes)?;
     text.append(b"end\n")?;
     Ok(text)
+}
+
+/// Appends the lines of the classes that are built, in their order.
+fn put_class_lines(text: &mut Values, classes: &Classes) -> Result<(), NoMemory>
+    ensures lines { OnOk result (text.new
+        ≡ text.old ++ joined (λ class. class_line class (line_in classes.now class)) built) }
+{
+    put_class_line(text, ClassName::Constant, &classes.constant)?;
+    put_class_line(text, ClassName::Majority, &classes.majority)?;
+    put_class_line(text, ClassName::Maltsev, &classes.maltsev)
 }
 
 /// Appends the items of the instances, in their order.
@@ -32,34 +46,36 @@ fn put_instances(
     alloc: Global,
     text: &mut Values,
     file: &File,
-    table: &Option<Values>,
+    classes: &Classes,
 ) -> Result<(), NoMemory>
-    requires line { ClassLine Constant file.now.language (Sought table.now) }
+    requires lines { AreLines file.now.language classes.now }
     requires begun { HasItems file.now.language (map Subject.OfClass built) text.old }
     ensures all { OnOk result (HasItems file.now.language (subjects file.now) text.new) }
 {
     for i in 0..file.instances() {
-        put_instance(alloc, text, file.lang(), file.instance(i), table)?;
+        put_instance(alloc, text, file.lang(), file.instance(i), classes)?;
     }
     Ok(())
 }
 
-/// Appends the item of an instance: undecided where the class line holds no table.
+/// Appends the item of an instance, by the chosen class: undecided where it is none that has a solver.
 fn put_instance(
     alloc: Global,
     text: &mut Values,
     lang: &Language,
     inst: &Instance,
-    table: &Option<Values>,
+    classes: &Classes,
 ) -> Result<(), NoMemory>
     requires language { IsLanguage lang.now }
     requires fits { Fits lang.now inst.now }
-    requires line { ClassLine Constant lang.now (Sought table.now) }
+    requires lines { AreLines lang.now classes.now }
     ensures item { OnOk result (AppendsItem lang.now (Subject.OfInstance inst.now) text.old text.new) }
 {
-    match table {
-        Some(cells) => put_answer(alloc, text, lang, inst, cells.as_slice()),
-        None => put_undecided(text, inst.name()),
+    match (classes.first(), &classes.constant) {
+        (Some(ClassName::Constant), Some(table)) => {
+            put_answer(alloc, text, lang, inst, table.cells())
+        }
+        _ => put_undecided(text, inst.name()),
     }
 }
 

@@ -1,12 +1,15 @@
 use Rattle.std.proofs.Common.{◌++◌, ◌∙◌, ap, subst}
-use Rattle.pol_base.specs.declared.class_name.ClassName.TheVariants.{Constant}
-use Rattle.pol_optable.specs.ClassLines.{ClassLine}
-use Rattle.pol_optable.specs.ClassLines.Line.{Sought}
+use Rattle.pol_text.specs.Texts.{joined}
+use Rattle.pol_optable.specs.ClassLines.{built}
+use Rattle.pol_optable.specs.Choices.{AreLines, line_in}
 use Rattle.pol_cli.specs.Items.{class_line}
 use Rattle.pol_cli.proofs.ReportLemmas.{items_begun}
 use Rattle.pol_cli.proofs.report.report_text.Goals as goal
 
 pub put_instances-requires-clause-begun : goal.put_instances-requires-clause-begun
 put_instances-requires-clause-begun c =
-    let line = subst (λ lang. ClassLine Constant lang (Sought c.in_ok-table.table)) c.lang.ensures.language c.in_ok-table.ensures.line in
-    items_begun c.args.file.now.language c.in_ok-table.table c.put_class_line.new.out line (c.in_ok-put_class_line.ensures.puts ∙ ap (λ some. some ++ class_line Constant (Sought c.in_ok-table.table)) c.in_ok-text.ensures.ok)
+    let classes = c.in_ok-classes.classes in
+    let lines = subst (λ lang. AreLines lang classes) c.lang.ensures.language c.in_ok-classes.ensures.lines in
+    let lines_text = joined (λ class. class_line class (line_in classes class)) built in
+    let text = c.in_ok-put_class_lines.ensures.lines ∙ ap (λ some. some ++ lines_text) c.in_ok-text.ensures.ok in
+    items_begun c.args.file.now.language classes c.put_class_lines.new.text lines text

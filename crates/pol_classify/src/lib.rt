@@ -1,0 +1,6 @@
+//! The least table of each class for a language.
+#![tactic(auto)]
+
+mod finding;
+
+pub use finding::classify;
