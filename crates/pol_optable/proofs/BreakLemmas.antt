@@ -41,7 +41,7 @@ front_cell n numbers = cell_of n (take (length numbers - 1) numbers) * n
 pub with_last-cell : (n : ℕ) (numbers : List ℕ) (last : ℕ) → cell_of n (with_last numbers last) ≡ front_cell n numbers + last
 with_last-cell n numbers last = cell_of-push n (take (length numbers - 1) numbers) last
 
-with_last-itself : (numbers : List ℕ) → 1 ≤ length numbers → with_last numbers (get_or numbers (length numbers - 1) 0) ≡ numbers
+pub with_last-itself : (numbers : List ℕ) → 1 ≤ length numbers → with_last numbers (get_or numbers (length numbers - 1) 0) ≡ numbers
 with_last-itself numbers some =
     let inside : length numbers - 1 < length numbers = omega arith in
     sym (take_more numbers (length numbers - 1) 0 inside) ∙ take_all (length numbers - 1 + 1) numbers (omega arith)
@@ -204,7 +204,7 @@ pub broken_refutes : (f : Operation) (r : RelationView) (numbers : List ℕ) →
 broken_refutes f r numbers broken preserves =
     broken.no_row (preserves (rows_at r numbers) (length-map numbers (λ i. get_or r.rows i []) ∙ broken.are_rows.long) (rows_at-rows r numbers broken.are_rows.below))
 
-row_or_not : (r : RelationView) (t : List ℕ) → (Contains r.rows t → ⊥) ⊎ Contains r.rows t
+pub row_or_not : (r : RelationView) (t : List ℕ) → (Contains r.rows t → ⊥) ⊎ Contains r.rows t
 row_or_not r t = by (is_among r.rows t) (is_among-decides r.rows t)
   where
     by : (b : Bool) → Decides b (Contains r.rows t) → (Contains r.rows t → ⊥) ⊎ Contains r.rows t

@@ -7,7 +7,7 @@ use Rattle.std.proofs.lemmas.List.Elements.{All-replicate, All-head, All-contain
 use Rattle.std.proofs.lemmas.List.FromFn.{length-map-range_with_len, get_or-map-range_with_len}
 use Rattle.pol_optable.specs.Operations.{Operation, value_at, IsOperation, image, Preserves}
 use Rattle.pol_base.specs.Tuples.{cell_of, IsTuple, IsBefore}
-use Rattle.pol_base.specs.declared.class_name.ClassName.TheVariants.{Constant, Majority, Maltsev}
+use Rattle.pol_base.specs.declared.class_name.ClassName.TheVariants.{Constant, Semilattice, SetFunction, Majority, Nu4, Affine, Maltsev}
 use Rattle.pol_optable.specs.Identities.{IsConstant}
 use Rattle.pol_optable.specs.Constants.{HoldsConstant, ClosedUnder}
 use Rattle.pol_optable.specs.ClassLines.{IsTable, ClassLine, Serves, Chooses}
@@ -171,4 +171,4 @@ line_value lang cells is line =
 pub constant_is_chosen : (lang : LanguageView) (a : ℕ) → IsLanguage lang → a < lang.domain → ClosedUnder lang a → ((b : ℕ) → b < a → ¬ ClosedUnder lang b) → Chooses lang (Some Constant)
 constant_is_chosen lang a is below closed least =
     let line = constant_line_found lang a is below closed least in
-    first_of_all (Serves lang) Constant (Majority ∷ Maltsev ∷ []) (record { cells = constant_cells lang.domain a; line = line })
+    first_of_all (Serves lang) Constant (Semilattice ∷ SetFunction ∷ Majority ∷ Nu4 ∷ Affine ∷ Maltsev ∷ []) (record { cells = constant_cells lang.domain a; line = line })

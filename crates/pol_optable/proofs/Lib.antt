@@ -1,3 +1,6 @@
+pub mod SetLemmas
+pub mod ValueWordLemmas
+pub mod MarkLemmas
 pub mod ConstantLemmas
 pub mod LineLemmas
 pub mod IdentityLemmas
@@ -6,3 +9,6 @@ pub mod RowSetLemmas
 pub mod ImageLemmas
 pub mod HalfLemmas
 pub mod BreakLemmas
+pub mod ProjectionLemmas
+pub mod ChosenLemmas
+pub mod SeekLemmas

@@ -8,7 +8,7 @@ use Rattle.pol_base.proofs.OrderLemmas.{order_of}
 use Rattle.pol_base.proofs.OrderLemmas.Order.{Before, Same, After}
 use Rattle.pol_relation.specs.Relations.{LanguageView}
 use Rattle.pol_relation.specs.Weights.{weight_of}
-use Rattle.pol_optable.specs.ClassLines.{IsTableOf, Line, ClassLine, HoldsTable, Serves, IsFirstOf, Chooses, built}
+use Rattle.pol_optable.specs.ClassLines.{IsTableOf, Line, ClassLine, HoldsTable, Serves, IsFirstOf, Chooses, all_classes}
 use Rattle.pol_optable.specs.ClassLines.Line.{Beyond, Sought}
 
 -- tables of one class have one length
@@ -131,9 +131,9 @@ module _ (P : ClassName → Type 0) where
 -- there is one chosen class, or none
 pub one_choice : (lang : LanguageView) (one other : Option ClassName) → Chooses lang one → Chooses lang other → one ≡ other
 one_choice lang None None a b = refl
-one_choice lang None (Some class) a b = absurd (none_first (Serves lang) built class a b)
-one_choice lang (Some class) None a b = absurd (none_first (Serves lang) built class b a)
-one_choice lang (Some class) (Some other) a b = ap (λ c. Some c) (one_first (Serves lang) built class other a b)
+one_choice lang None (Some class) a b = absurd (none_first (Serves lang) all_classes class a b)
+one_choice lang (Some class) None a b = absurd (none_first (Serves lang) all_classes class b a)
+one_choice lang (Some class) (Some other) a b = ap (λ c. Some c) (one_first (Serves lang) all_classes class other a b)
 
 -- a line of a class that holds no table is the line of a class that does not serve
 pub not_serving : (class : ClassName) (lang : LanguageView) (line : Line) → ClassLine class lang line → ¬ HoldsTable line → ¬ Serves lang class
@@ -147,7 +147,7 @@ serving class lang Beyond is holds = absurd holds
 serving class lang (Sought None) is holds = absurd holds
 serving class lang (Sought (Some cells)) is holds = record { cells = cells; line = is }
 
--- where the line of no built class holds a table, no class is chosen
-pub none_is_chosen : (lang : LanguageView) → All (λ class. ClassLine class lang (Sought None)) built → Chooses lang None
+-- where the line of no class holds a table, no class is chosen
+pub none_is_chosen : (lang : LanguageView) → All (λ class. ClassLine class lang (Sought None)) all_classes → Chooses lang None
 none_is_chosen lang none = All-weaker (λ class. ClassLine class lang (Sought None)) (λ class. ¬ Serves lang class)
-    (λ class is. not_serving class lang (Sought None) is (λ holds. holds)) built none
+    (λ class is. not_serving class lang (Sought None) is (λ holds. holds)) all_classes none

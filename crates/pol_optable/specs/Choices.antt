@@ -1,23 +1,23 @@
 -- The tables of the classes that were found, and the first class that has one.
-use Rattle.std.specs.Prelude.{◌≡◌, List, [], ◌∷◌, Option, Some, None, option_map, All}
+use Rattle.std.specs.Prelude.{Option, Some, None, option_map, All}
 use Rattle.pol_base.specs.declared.class_name.ClassName.{ClassName}
 use Rattle.pol_base.specs.declared.class_name.ClassName.TheVariants.{Constant, Semilattice, SetFunction, Majority, Nu4, Affine, Maltsev}
 use Rattle.pol_relation.specs.Relations.{LanguageView}
-use Rattle.pol_optable.specs.ClassLines.{Line, ClassLine, HoldsTable, IsFirstOf, built, not_built}
+use Rattle.pol_optable.specs.ClassLines.{Line, ClassLine, HoldsTable, IsFirstOf, all_classes}
 use Rattle.pol_optable.specs.ClassLines.Line.{Beyond, Sought}
 use Rattle.pol_optable.specs.declared.classes.Classes.{Classes}
 use Rattle.pol_optable.specs.declared.classes.Nu4.{Nu4 as Nu4Line}
 use Rattle.pol_optable.specs.declared.classes.Nu4.TheVariants as nu4
-
--- the seven classes, in the order in which they are tried
-abbrev pub all_classes : List ClassName
-all_classes = Constant ∷ Semilattice ∷ SetFunction ∷ Majority ∷ Nu4 ∷ Affine ∷ Maltsev ∷ []
 
 -- what was found of arity four, as a line
 abbrev pub nu4_line : Nu4Line → Line
 nu4_line nu4.Beyond = Beyond
 nu4_line nu4.Absent = Sought None
 nu4_line (nu4.Found f) = Sought (Some f.cells)
+
+-- it is the line of `nu4` for the language
+abbrev pub IsNu4Line : LanguageView → Nu4Line → Type 0
+IsNu4Line lang found = ClassLine Nu4 lang (nu4_line found)
 
 -- what was found of the class, as a line
 abbrev pub line_in : Classes → ClassName → Line
@@ -33,12 +33,11 @@ line_in classes Maltsev = Sought (option_map (λ f. f.cells) classes.maltsev)
 abbrev pub HasTable : Classes → ClassName → Type 0
 HasTable classes class = HoldsTable (line_in classes class)
 
--- the first of the seven classes of which a table was found, and none exactly where there is no table
+-- the first class of which a table was found, and none exactly where there is no table
 abbrev pub FirstFound : Classes → Option ClassName → Type 0
 FirstFound classes None = All (λ class. ¬ HasTable classes class) all_classes
 FirstFound classes (Some class) = IsFirstOf (HasTable classes) all_classes class
 
--- the lines of the built classes for the language were found, and of the other classes nothing
-pub record AreLines (lang : LanguageView) (classes : Classes) : Type 0 where
-  pub lines : All (λ class. ClassLine class lang (line_in classes class)) built
-  pub no_other : All (λ class. line_in classes class ≡ Sought None) not_built
+-- the line of each class for the language was found
+abbrev pub AreLines : LanguageView → Classes → Type 0
+AreLines lang classes = (class : ClassName) → ClassLine class lang (line_in classes class)

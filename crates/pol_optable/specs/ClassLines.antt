@@ -62,13 +62,9 @@ pub record Serves (lang : LanguageView) (class : ClassName) : Type 0 where
   pub cells : List ℕ
   pub line : ClassLine class lang (Sought (Some cells))
 
--- the classes whose lines are sought, in the order in which they are tried
-abbrev pub built : List ClassName
-built = Constant ∷ Majority ∷ Maltsev ∷ []
-
--- the other classes
-abbrev pub not_built : List ClassName
-not_built = Semilattice ∷ SetFunction ∷ Nu4 ∷ Affine ∷ []
+-- the classes, in the order in which they are tried
+abbrev pub all_classes : List ClassName
+all_classes = Constant ∷ Semilattice ∷ SetFunction ∷ Majority ∷ Nu4 ∷ Affine ∷ Maltsev ∷ []
 
 -- the first of the classes of which it holds
 pub record IsFirstOf (P : ClassName → Type 0) (classes : List ClassName) (class : ClassName) : Type 0 where
@@ -80,5 +76,5 @@ pub record IsFirstOf (P : ClassName → Type 0) (classes : List ClassName) (clas
 
 -- the chosen class, the first that serves, and none exactly where no class serves
 abbrev pub Chooses : LanguageView → Option ClassName → Type 0
-Chooses lang None = All (λ class. ¬ Serves lang class) built
-Chooses lang (Some class) = IsFirstOf (Serves lang) built class
+Chooses lang None = All (λ class. ¬ Serves lang class) all_classes
+Chooses lang (Some class) = IsFirstOf (Serves lang) all_classes class

@@ -6,7 +6,7 @@ use Rattle.pol_relation.specs.Relations.{LanguageView, IsLanguage}
 use Rattle.pol_relation.specs.Weights.{weight_of}
 use Rattle.pol_optable.specs.Operations.{Operation, operation_of, value_at}
 use Rattle.pol_optable.specs.Constants.{ClosedUnder}
-use Rattle.pol_optable.specs.ClassLines.{IsTableOf, Line, ClassLine, Serves, IsFirstOf, Chooses, built}
+use Rattle.pol_optable.specs.ClassLines.{IsTableOf, Line, ClassLine, Serves, IsFirstOf, Chooses, all_classes}
 use Rattle.pol_optable.specs.ClassLines.Line.{Beyond, Sought}
 use Rattle.pol_optable.specs.Choices.{FirstFound, AreLines}
 use Rattle.pol_optable.specs.declared.classes.Classes.{Classes}
@@ -74,7 +74,7 @@ OtherIsPassedOver =
     → IsFirstOf (Serves lang) later chosen
     → IsFirstOf (Serves lang) (class ∷ later) chosen
 
--- where the lines of the built classes were found, the first class of which there is a table is the chosen one
+-- where the lines of the classes were found, the first class of which there is a table is the chosen one
 abbrev pub FoundIsChosen : Type 0
 FoundIsChosen =
     (lang : LanguageView) (classes : Classes) (first : Option ClassName)
@@ -92,11 +92,11 @@ ConstantIsChosen =
     → ((b : ℕ) → b < a → ¬ ClosedUnder lang b)
     → Chooses lang (Some Constant)
 
--- where the line of no built class holds a table, no class is chosen
+-- where the line of no class holds a table, no class is chosen
 abbrev pub NoneIsChosen : Type 0
 NoneIsChosen =
     (lang : LanguageView)
-    → All (λ class. ClassLine class lang (Sought None)) built
+    → All (λ class. ClassLine class lang (Sought None)) all_classes
     → Chooses lang None
 
 -- f(x, x, y) = f(x, y, x) = f(y, x, x) = x

@@ -5,6 +5,8 @@ pub mod ClassLines
 pub mod Tables
 pub mod Breaks
 pub mod RowSets
+pub mod SetBreaks
+pub mod ValueWords
 pub mod Choices
 pub mod Constants
 pub mod Laws

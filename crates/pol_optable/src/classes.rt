@@ -5,7 +5,7 @@ use crate::{OpTable, SetFn};
 use pol_base::ClassName;
 
 /// The classes in the order in which they are tried.
-const CLASSES: [ClassName; 7] = [
+pub const CLASSES: [ClassName; 7] = [
     ClassName::Constant,
     ClassName::Semilattice,
     ClassName::SetFunction,

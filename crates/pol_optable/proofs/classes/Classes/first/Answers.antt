@@ -3,7 +3,8 @@ use Rattle.std.specs.Prelude.{IsTrue}
 use Rattle.std.proofs.lemmas.Bool.{cases_eq}
 use Rattle.std.proofs.lemmas.List.{get_or_default}
 use Rattle.pol_base.specs.declared.class_name.ClassName.TheVariants.{Constant}
-use Rattle.pol_optable.specs.Choices.{HasTable, all_classes}
+use Rattle.pol_optable.specs.ClassLines.{all_classes}
+use Rattle.pol_optable.specs.Choices.{HasTable}
 use Rattle.pol_optable.proofs.LineLemmas.{first_at}
 use Rattle.pol_optable.proofs.classes.Classes.first.Goals as goal
 
