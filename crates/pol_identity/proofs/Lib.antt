@@ -3,3 +3,7 @@ pub mod ConstantLemmas
 pub mod ForcedLemmas
 pub mod NearUnanimityLemmas
 pub mod MaltsevLemmas
+pub mod AssociationLemmas
+pub mod SemilatticeLemmas
+pub mod LabelLemmas
+pub mod AffineLemmas

@@ -13,7 +13,7 @@ use Rattle.pol_identity.specs.MaltsevLaws.{rule_by}
 use Rattle.pol_identity.proofs.RuleLemmas.{obeys_at}
 
 -- three values of the domain are a tuple
-three : (d x y z : ℕ) → x < d → y < d → z < d → IsTuple d 3 (x ∷ y ∷ z ∷ [])
+pub three : (d x y z : ℕ) → x < d → y < d → z < d → IsTuple d 3 (x ∷ y ∷ z ∷ [])
 three d x y z x_below y_below z_below =
     let Below : ℕ → Type 0 = λ v. v < d in
     let last : All Below (z ∷ []) = All-cons Below z [] z_below (All-nil Below) in

@@ -6,4 +6,11 @@ pub mod NearUnanimityRule
 pub mod NearUnanimityLaws
 pub mod MaltsevRule
 pub mod MaltsevLaws
+pub mod Association
+pub mod SemilatticeRule
+pub mod SemilatticeLaws
+pub mod Labels
+pub mod LabelLaws
+pub mod AffineRule
+pub mod AffineLaws
 pub mod Laws
