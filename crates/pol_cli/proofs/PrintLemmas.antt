@@ -22,18 +22,6 @@ last_call r old mid new done last whole stands puts same = subst (Puts r old new
 pub two_done : (old mid new one other : List ℕ) → mid ≡ old ++ one → new ≡ mid ++ other → new ≡ old ++ (one ++ other)
 two_done old mid new one other first second = second ∙ (ap (λ bytes. bytes ++ other) first ∙ append_assoc old one other)
 
--- three calls in turn
-pub three_done :
-    (old front mid new one other last : List ℕ)
-    → front ≡ old ++ one
-    → mid ≡ front ++ other
-    → new ≡ mid ++ last
-    → new ≡ old ++ (one ++ (other ++ (last ++ [])))
-three_done old front mid new one other last first second third =
-    let both = two_done old front mid one other first second in
-    let whole = append_assoc one other last ∙ ap (λ bytes. one ++ (other ++ bytes)) (sym (append-nil last)) in
-    two_done old mid new (one ++ other) last both third ∙ ap (λ bytes. old ++ bytes) whole
-
 -- ---- lines of tokens behind a keyword
 
 -- one token behind a space

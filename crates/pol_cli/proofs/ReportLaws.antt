@@ -11,7 +11,7 @@ use Rattle.pol_relation.specs.Relations.{LanguageView}
 use Rattle.pol_relation.specs.Instances.{InstanceView, IsSolution, HasNoSolution}
 use Rattle.pol_nogood.specs.Logs.{StepView}
 use Rattle.pol_nogood.specs.Answers.{IsCertificate}
-use Rattle.pol_optable.specs.ClassLines.{Line, ClassLine, Serves, built}
+use Rattle.pol_optable.specs.ClassLines.{Line, ClassLine, Serves, all_classes}
 use Rattle.pol_optable.specs.ClassLines.Line.{Sought}
 use Rattle.pol_optable.proofs.LineLemmas.{one_line, one_choice, none_first, not_serving}
 use Rattle.pol_lang.specs.Files.{FileView, no_instance, instance_of}
@@ -25,18 +25,18 @@ at_place : {A B : Type 0} (R : A → B → Type 0) (xs : List A) (ys : List B) (
 at_place R xs ys k d all inside = subst (λ found. MatchOption found (Unit {0}) (λ x. IsSomeAnd (slice_get ys k) (R x))) (slice_get-get_or xs k d inside) (AllZip-left R xs ys all k)
 
 -- the subject of a class
-subject_of_class : (file : FileView) (k : ℕ) (d : Subject) → k < length built → get_or (subjects file) k d ≡ Subject.OfClass (class_at k)
+subject_of_class : (file : FileView) (k : ℕ) (d : Subject) → k < length all_classes → get_or (subjects file) k d ≡ Subject.OfClass (class_at k)
 subject_of_class file k d inside =
-    get_or_append_left (map Subject.OfClass built) (map Subject.OfInstance file.instances) d k (omega (arith, length-map built Subject.OfClass)) ∙ get_or-map Subject.OfClass built k Constant d inside
+    get_or_append_left (map Subject.OfClass all_classes) (map Subject.OfInstance file.instances) d k (omega (arith, length-map all_classes Subject.OfClass)) ∙ get_or-map Subject.OfClass all_classes k Constant d inside
 
 -- the subject of an instance
-subject_of_instance : (file : FileView) (i : ℕ) (d : Subject) → i < length file.instances → get_or (subjects file) (length built + i) d ≡ Subject.OfInstance (instance_of file i)
+subject_of_instance : (file : FileView) (i : ℕ) (d : Subject) → i < length file.instances → get_or (subjects file) (length all_classes + i) d ≡ Subject.OfInstance (instance_of file i)
 subject_of_instance file i d inside =
-    get_or-append-add (map Subject.OfClass built) (map Subject.OfInstance file.instances) i d ∙ get_or-map Subject.OfInstance file.instances i no_instance d inside
+    get_or-append-add (map Subject.OfClass all_classes) (map Subject.OfInstance file.instances) i d ∙ get_or-map Subject.OfInstance file.instances i no_instance d inside
 
 -- how many subjects there are
-count_of_subjects : (file : FileView) → length (subjects file) ≡ length built + length file.instances
-count_of_subjects file = omega (arith, length-append (map Subject.OfClass built) (map Subject.OfInstance file.instances), length-map built Subject.OfClass, length-map file.instances Subject.OfInstance)
+count_of_subjects : (file : FileView) → length (subjects file) ≡ length all_classes + length file.instances
+count_of_subjects file = omega (arith, length-append (map Subject.OfClass all_classes) (map Subject.OfInstance file.instances), length-map all_classes Subject.OfClass, length-map file.instances Subject.OfInstance)
 
 -- a report has the item of each class and of each instance at its place, and no other
 pub reports_whole : (file : FileView) (text : List ℕ) → IsReport file text → IsWhole file text
@@ -49,7 +49,7 @@ reports_whole file text report =
       text_is = report.text_is ∙ ap (λ front. front ++ last_line) has.text_is;
       count = AllZip-long (IsItem file.language) (subjects file) has.items has.right ∙ count;
       classes = λ k inside. subst (λ subject. IsSomeAnd (slice_get has.items k) (IsItem file.language subject)) (subject_of_class file k d inside) (at_place (IsItem file.language) (subjects file) has.items k d has.right (omega (arith, count)));
-      instances = λ i inside. subst (λ subject. IsSomeAnd (slice_get has.items (length built + i)) (IsItem file.language subject)) (subject_of_instance file i d inside) (at_place (IsItem file.language) (subjects file) has.items (length built + i) d has.right (omega (arith, count)));
+      instances = λ i inside. subst (λ subject. IsSomeAnd (slice_get has.items (length all_classes + i)) (IsItem file.language subject)) (subject_of_instance file i d inside) (at_place (IsItem file.language) (subjects file) has.items (length all_classes + i) d has.right (omega (arith, count)));
     }
 
 -- a begun report has the first of these items
@@ -69,9 +69,9 @@ begun_whole file text begun =
           let stands : k < length begun.first = omega (arith, long) in
           subst (λ subject. IsSomeAnd (slice_get has.items k) (IsItem file.language subject)) (same k stands ∙ subject_of_class file k d inside) (at_place (IsItem file.language) begun.first has.items k d has.right stands);
       instances = λ i there.
-          let stands : length built + i < length begun.first = omega (arith, long) in
+          let stands : length all_classes + i < length begun.first = omega (arith, long) in
           let inside : i < length file.instances = omega (arith, count, all) in
-          subst (λ subject. IsSomeAnd (slice_get has.items (length built + i)) (IsItem file.language subject)) (same (length built + i) stands ∙ subject_of_instance file i d inside) (at_place (IsItem file.language) begun.first has.items (length built + i) d has.right stands);
+          subst (λ subject. IsSomeAnd (slice_get has.items (length all_classes + i)) (IsItem file.language subject)) (same (length all_classes + i) stands ∙ subject_of_instance file i d inside) (at_place (IsItem file.language) begun.first has.items (length all_classes + i) d has.right stands);
     }
 
 -- where the line of the class `constant` holds a table, its solver answers
@@ -81,7 +81,7 @@ served_answered :
     → IsInstanceItem lang inst text
     → IsLogItem 1 Constant lang inst text
 served_answered lang inst text cells line (IsInstanceItem.unserved none is) =
-    absurd (none_first (Serves lang) built Constant none (constant_chosen lang cells line))
+    absurd (none_first (Serves lang) all_classes Constant none (constant_chosen lang cells line))
 served_answered lang inst text cells line (IsInstanceItem.served class chosen owes) =
     let same = one_choice lang (Some class) (Some Constant) chosen (constant_chosen lang cells line) in
     let is : class ≡ Constant = cc in

@@ -1,5 +1,5 @@
 -- A report as it grows, item by item.
-use Rattle.std.proofs.Common.{◌≡◌, ℕ, ◌+◌, ◌<◌, ◌≤◌, All, List, [], ◌∷◌, ◌++◌, length, map, take, Option, Some, None, refl, sym, ap, ◌∙◌, append_assoc, append-nil}
+use Rattle.std.proofs.Common.{◌≡◌, ℕ, ◌+◌, ◌<◌, ◌≤◌, List, [], ◌∷◌, ◌++◌, length, map, take, Option, Some, None, refl, sym, ap, ◌∙◌, append_assoc, append-nil}
 use Rattle.std.specs.List.{AllZip}
 use Rattle.std.proofs.lemmas.List.{take_more, take_all, map-append}
 use Rattle.pol_base.specs.declared.class_name.ClassName.{ClassName}
@@ -10,14 +10,13 @@ use Rattle.pol_relation.specs.Relations.{LanguageView}
 use Rattle.pol_relation.specs.Instances.{InstanceView, IsSolution, HasNoSolution}
 use Rattle.pol_nogood.specs.Logs.{StepView}
 use Rattle.pol_nogood.specs.Answers.{IsCertificate}
-use Rattle.pol_optable.specs.ClassLines.{ClassLine, Serves, Chooses, built}
+use Rattle.pol_optable.specs.ClassLines.{ClassLine, Serves, Chooses, all_classes}
 use Rattle.pol_optable.specs.ClassLines.Line.{Sought}
 use Rattle.pol_optable.specs.Choices.{AreLines, line_in}
 use Rattle.pol_optable.specs.declared.classes.Classes.{Classes}
 use Rattle.pol_optable.proofs.LineLemmas.{first_of_all}
 use Rattle.pol_lang.specs.Files.{FileView, no_instance, instance_of}
 use Rattle.std.specs.Prelude.{Result, Ok, Err, OnOk}
-use Rattle.std.proofs.lemmas.List.Elements.{All-head, All-tail}
 use Rattle.pol_cli.specs.Items.{head_line, class_line, undecided_item, yes_item, no_item}
 use Rattle.pol_cli.specs.Reports.{Subject, subjects, IsItem, IsLogItem, IsInstanceItem, Owes, HasItems, AppendsItem}
 
@@ -44,49 +43,48 @@ HasItems-push lang some subject old new has more = record {
 
 -- the subjects of the classes and of the first instances
 abbrev pub subjects_up_to : FileView → ℕ → List Subject
-subjects_up_to file i = map Subject.OfClass built ++ map Subject.OfInstance (take i file.instances)
+subjects_up_to file i = map Subject.OfClass all_classes ++ map Subject.OfInstance (take i file.instances)
 
 -- one instance more
 pub subjects-next : (file : FileView) (i : ℕ) → i < length file.instances → subjects_up_to file (i + 1) ≡ subjects_up_to file i ++ Subject.OfInstance (instance_of file i) ∷ []
 subjects-next file i inside =
     let taken : take (i + 1) file.instances ≡ take i file.instances ++ instance_of file i ∷ [] = take_more file.instances i no_instance inside in
-    ap (λ some. map Subject.OfClass built ++ map Subject.OfInstance some) taken
-    ∙ (ap (λ some. map Subject.OfClass built ++ some) (map-append Subject.OfInstance (take i file.instances) (instance_of file i ∷ []))
-    ∙ sym (append_assoc (map Subject.OfClass built) (map Subject.OfInstance (take i file.instances)) (Subject.OfInstance (instance_of file i) ∷ [])))
+    ap (λ some. map Subject.OfClass all_classes ++ map Subject.OfInstance some) taken
+    ∙ (ap (λ some. map Subject.OfClass all_classes ++ some) (map-append Subject.OfInstance (take i file.instances) (instance_of file i ∷ []))
+    ∙ sym (append_assoc (map Subject.OfClass all_classes) (map Subject.OfInstance (take i file.instances)) (Subject.OfInstance (instance_of file i) ∷ [])))
 
 -- and behind the last instance there is no more
 pub subjects-all : (file : FileView) (i : ℕ) → length file.instances ≤ i → subjects_up_to file i ≡ subjects file
-subjects-all file i all = ap (λ some. map Subject.OfClass built ++ map Subject.OfInstance some) (take_all i file.instances all)
+subjects-all file i all = ap (λ some. map Subject.OfClass all_classes ++ map Subject.OfInstance some) (take_all i file.instances all)
 
 -- the lines of classes, one by one
 class_items :
     (lang : LanguageView) (classes : Classes) (some : List ClassName)
-    → All (λ class. ClassLine class lang (line_in classes class)) some
+    → AreLines lang classes
     → AllZip (IsItem lang) (map Subject.OfClass some) (map (λ class. class_line class (line_in classes class)) some)
 class_items lang classes [] lines = tt
-class_items lang classes (class ∷ rest) lines =
-    let IsLine : ClassName → Type 0 = λ other. ClassLine other lang (line_in classes other) in (
-      record { line = line_in classes class; is_line = All-head IsLine class rest lines; text_is = refl },
-      class_items lang classes rest (All-tail IsLine class rest lines),
-    )
+class_items lang classes (class ∷ rest) lines = (
+  record { line = line_in classes class; is_line = lines class; text_is = refl },
+  class_items lang classes rest lines,
+)
 
 -- texts one behind another, each made of its element
 joined-map : {A : Type 0} (text : A → List ℕ) (xs : List A) → joined (λ item. item) (map text xs) ≡ joined text xs
 joined-map text [] = refl
 joined-map text (x ∷ xs) = ap (λ rest. text x ++ rest) (joined-map text xs)
 
--- the head line and the lines of the built classes begin a report
+-- the head line and the lines of the classes begin a report
 pub items_begun :
     (lang : LanguageView) (classes : Classes) (text : List ℕ)
     → AreLines lang classes
-    → text ≡ head_line ++ joined (λ class. class_line class (line_in classes class)) built
-    → HasItems lang (map Subject.OfClass built) text
+    → text ≡ head_line ++ joined (λ class. class_line class (line_in classes class)) all_classes
+    → HasItems lang (map Subject.OfClass all_classes) text
 items_begun lang classes text are is =
     let line : ClassName → List ℕ = λ class. class_line class (line_in classes class) in
     record {
-      items = map line built;
-      right = class_items lang classes built are.lines;
-      text_is = is ∙ ap (λ lines. head_line ++ lines) (sym (joined-map line built));
+      items = map line all_classes;
+      right = class_items lang classes all_classes are;
+      text_is = is ∙ ap (λ lines. head_line ++ lines) (sym (joined-map line all_classes));
     }
 
 -- where the line of the class `constant` holds a table it is the chosen class
@@ -95,7 +93,7 @@ pub constant_chosen :
     → ClassLine Constant lang (Sought (Some cells))
     → Chooses lang (Some Constant)
 constant_chosen lang cells line =
-    first_of_all (Serves lang) Constant (Majority ∷ Maltsev ∷ []) (record { cells = cells; line = line })
+    first_of_all (Serves lang) Constant (Semilattice ∷ SetFunction ∷ Majority ∷ Nu4 ∷ Affine ∷ Maltsev ∷ []) (record { cells = cells; line = line })
 
 -- the item of a solution
 pub appends_yes : (lang : LanguageView) (inst : InstanceView) (cells values given name old new : List ℕ) → ClassLine Constant lang (Sought (Some cells)) → IsSolution lang inst values → name ≡ inst.name → given ≡ values → new ≡ old ++ yes_item name Constant given → AppendsItem lang (Subject.OfInstance inst) old new

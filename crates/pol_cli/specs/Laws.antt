@@ -10,7 +10,7 @@ use Rattle.pol_relation.specs.Relations.{LanguageView}
 use Rattle.pol_relation.specs.Instances.{InstanceView, IsSolution, HasNoSolution}
 use Rattle.pol_nogood.specs.Logs.{StepView}
 use Rattle.pol_nogood.specs.Answers.{IsCertificate}
-use Rattle.pol_optable.specs.ClassLines.{Line, ClassLine, built}
+use Rattle.pol_optable.specs.ClassLines.{Line, ClassLine, all_classes}
 use Rattle.pol_optable.specs.ClassLines.Line.{Sought}
 use Rattle.pol_lang.specs.Limits.{most_bytes}
 use Rattle.pol_lang.specs.Files.{FileView, Parsed, instance_of}
@@ -28,16 +28,16 @@ StandsAt items place P = IsSomeAnd (slice_get items place) P
 
 -- the class whose line stands at the place
 abbrev pub class_at : ℕ → ClassName
-class_at place = slice_index_or built place Constant
+class_at place = slice_index_or all_classes place Constant
 
 -- a report is a head line, the line of each class, an item of each instance, each at its place, and a last line
 pub record IsWhole (file : FileView) (text : List ℕ) : Type 0 where
   pub items : List (List ℕ)
   pub text_is : text ≡ head_line ++ joined (λ item. item) items ++ last_line
-  pub count : length items ≡ length built + length file.instances
-  pub classes : (k : ℕ) → k < length built → StandsAt items k (IsClassItem file.language (class_at k))
+  pub count : length items ≡ length all_classes + length file.instances
+  pub classes : (k : ℕ) → k < length all_classes → StandsAt items k (IsClassItem file.language (class_at k))
   pub instances : (i : ℕ) → i < length file.instances
-      → StandsAt items (length built + i) (IsInstanceItem file.language (instance_of file i))
+      → StandsAt items (length all_classes + i) (IsInstanceItem file.language (instance_of file i))
 
 -- each report
 abbrev pub ReportsAreWhole : Type 0
@@ -88,11 +88,11 @@ OwedAreItems =
 pub record IsBegunWhole (file : FileView) (text : List ℕ) : Type 0 where
   pub items : List (List ℕ)
   pub text_is : text ≡ head_line ++ joined (λ item. item) items
-  pub few : length items ≤ length built + length file.instances
-  pub classes : (k : ℕ) → k < length built → k < length items
+  pub few : length items ≤ length all_classes + length file.instances
+  pub classes : (k : ℕ) → k < length all_classes → k < length items
       → StandsAt items k (IsClassItem file.language (class_at k))
-  pub instances : (i : ℕ) → length built + i < length items
-      → StandsAt items (length built + i) (IsInstanceItem file.language (instance_of file i))
+  pub instances : (i : ℕ) → length all_classes + i < length items
+      → StandsAt items (length all_classes + i) (IsInstanceItem file.language (instance_of file i))
 
 -- each begun report
 abbrev pub BegunReportsAreWhole : Type 0

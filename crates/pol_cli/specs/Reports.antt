@@ -8,7 +8,7 @@ use Rattle.pol_relation.specs.Relations.{LanguageView}
 use Rattle.pol_relation.specs.Instances.{InstanceView, IsSolution, HasNoSolution}
 use Rattle.pol_nogood.specs.Logs.{StepView}
 use Rattle.pol_nogood.specs.Answers.{IsCertificate}
-use Rattle.pol_optable.specs.ClassLines.{Line, ClassLine, Chooses, built}
+use Rattle.pol_optable.specs.ClassLines.{Line, ClassLine, Chooses, all_classes}
 use Rattle.pol_lang.specs.Files.{FileView}
 use Rattle.pol_cli.specs.Items.{head_line, last_line, class_line, undecided_item, yes_item, no_item}
 
@@ -59,7 +59,7 @@ IsItem lang (Subject.OfInstance inst) text = IsInstanceItem lang inst text
 
 -- each class in the order of the classes, and behind them each instance in its order
 abbrev pub subjects : FileView → List Subject
-subjects file = map Subject.OfClass built ++ map Subject.OfInstance file.instances
+subjects file = map Subject.OfClass all_classes ++ map Subject.OfInstance file.instances
 
 -- the head line, and behind it a right item of each of the subjects in their order
 pub record HasItems (lang : LanguageView) (some : List Subject) (text : List ℕ) : Type 0 where

@@ -1,38 +1,99 @@
-ghost use Rattle.std.specs.Prelude.{◌≡◌, ◌++◌, [], ◌∷◌, length, option_map, codes, decimal};
+ghost use Rattle.std.specs.Prelude.{◌≡◌, ◌++◌, [], ◌∷◌, length, Some, option_map, codes, decimal};
 ghost use Rattle.pol_base.specs.Names.{class_word};
 ghost use Rattle.pol_text.specs.Texts.{Puts, joined, spaced_texts, printed_line};
 ghost use Rattle.pol_nogood.specs.Steps.{step_named};
 ghost use Rattle.pol_optable.specs.ClassLines.Line.{Sought};
-ghost use Rattle.pol_cli.specs.Items.{class_line, line_tokens, instance_line, undecided_item, yes_item, no_item, step_line, nogood_tokens, pair_tokens, reference_tokens};
+ghost use Rattle.pol_optable.specs.Choices.{line_in, nu4_line};
+ghost use Rattle.pol_cli.specs.Items.{class_line, instance_line, undecided_item, yes_item, no_item, step_line, nogood_tokens, pair_tokens, reference_tokens};
 
 use pol_base::{ClassName, NoMemory, Numbers, Values};
 use pol_nogood::{Log, Nogood, Step};
-use pol_optable::OpTable;
+use pol_optable::{Classes, Nu4, OpTable, SetFn};
 use pol_text::{put_number, put_numbers, put_spaced, put_token, put_values};
 
-/// Appends the line of the class: the cells of its table, or `none`.
-pub(crate) fn put_class_line<const K: usize>(
+/// Appends the line of the class: the cells of its table, `none` or `beyond`.
+pub(crate) fn put_class_line(
+    out: &mut Values,
+    class: ClassName,
+    classes: &Classes,
+) -> Result<(), NoMemory>
+    ensures puts { Puts result out.old out.new (class_line class (line_in classes.now class)) }
+{
+    match class {
+        ClassName::Constant => put_table(out, class, &classes.constant),
+        ClassName::Semilattice => put_table(out, class, &classes.semilattice),
+        ClassName::SetFunction => put_set_function(out, class, &classes.setfn),
+        ClassName::Majority => put_table(out, class, &classes.majority),
+        ClassName::Nu4 => put_nu4(out, class, &classes.nu4),
+        ClassName::Affine => put_table(out, class, &classes.affine),
+        ClassName::Maltsev => put_table(out, class, &classes.maltsev),
+    }
+}
+
+/// Appends the line of a class that holds an operation table or none.
+fn put_table<const K: usize>(
     out: &mut Values,
     class: ClassName,
     table: &Option<OpTable<K>>,
 ) -> Result<(), NoMemory>
     ensures puts { Puts result out.old out.new (class_line class (Sought (option_map (λ f. f.cells) table.now))) }
 {
-    out.append(b"class")?;
-    put_token(out, class.word())?;
-    put_table(out, table)?;
+    match table {
+        Some(table) => put_cells(out, class, table.cells()),
+        None => put_word(out, class, b"none"),
+    }
+}
+
+/// Appends the line of a class that holds a set function or none.
+fn put_set_function(
+    out: &mut Values,
+    class: ClassName,
+    table: &Option<SetFn>,
+) -> Result<(), NoMemory>
+    ensures puts { Puts result out.old out.new (class_line class (Sought (option_map (λ g. g.cells) table.now))) }
+{
+    match table {
+        Some(table) => put_cells(out, class, table.cells()),
+        None => put_word(out, class, b"none"),
+    }
+}
+
+/// Appends the line of a class of which a table is not always sought.
+fn put_nu4(out: &mut Values, class: ClassName, found: &Nu4) -> Result<(), NoMemory>
+    ensures puts { Puts result out.old out.new (class_line class (nu4_line found.now)) }
+{
+    match found {
+        Nu4::Beyond => put_word(out, class, b"beyond"),
+        Nu4::Absent => put_word(out, class, b"none"),
+        Nu4::Found(table) => put_cells(out, class, table.cells()),
+    }
+}
+
+/// Appends the line of a class with the cells of its table.
+fn put_cells(out: &mut Values, class: ClassName, cells: &[u8]) -> Result<(), NoMemory>
+    ensures puts { Puts result out.old out.new (class_line class (Sought (Some cells.now))) }
+{
+    put_class(out, class)?;
+    put_values(out, cells)?;
     out.append(b"\n")
 }
 
-/// Appends the cells of the table, each behind a space, or `none`.
-fn put_table<const K: usize>(out: &mut Values, table: &Option<OpTable<K>>) -> Result<(), NoMemory>
+/// Appends the line of a class with a word in place of a table.
+fn put_word(out: &mut Values, class: ClassName, word: &[u8]) -> Result<(), NoMemory>
     ensures puts { Puts result out.old out.new
-        (spaced_texts (line_tokens (Sought (option_map (λ f. f.cells) table.now)))) }
+        (printed_line (codes "class" ∷ class_word class ∷ word.now ∷ [])) }
 {
-    match table {
-        Some(table) => put_values(out, table.cells()),
-        None => put_token(out, b"none"),
-    }
+    put_class(out, class)?;
+    put_token(out, word)?;
+    out.append(b"\n")
+}
+
+/// Appends `class` and the word of the class.
+fn put_class(out: &mut Values, class: ClassName) -> Result<(), NoMemory>
+    ensures puts { Puts result out.old out.new (codes "class" ++ spaced_texts (class_word class ∷ [])) }
+{
+    out.append(b"class")?;
+    put_token(out, class.word())
 }
 
 /// Appends the item of an instance that no class with a solver serves.

@@ -1,9 +1,9 @@
-ghost use Rattle.std.specs.Prelude.{◌≡◌, ◌++◌, map, Some, OnOk, IfOk};
+ghost use Rattle.std.specs.Prelude.{◌++◌, map, Some, OnOk, IfOk};
 ghost use Rattle.pol_base.specs.declared.class_name.ClassName.TheVariants.{Constant};
-ghost use Rattle.pol_text.specs.Texts.{joined};
+ghost use Rattle.pol_text.specs.Texts.{joined, Puts};
 ghost use Rattle.pol_relation.specs.Relations.{IsLanguage};
 ghost use Rattle.pol_relation.specs.Instances.{Fits};
-ghost use Rattle.pol_optable.specs.ClassLines.{ClassLine, built};
+ghost use Rattle.pol_optable.specs.ClassLines.{ClassLine, all_classes};
 ghost use Rattle.pol_optable.specs.ClassLines.Line.{Sought};
 ghost use Rattle.pol_optable.specs.Choices.{AreLines, line_in};
 ghost use Rattle.pol_cli.specs.Items.{class_line};
@@ -15,7 +15,7 @@ use pol_base::{ClassName, NoMemory, Values};
 use pol_classify::classify;
 use pol_lang::File;
 use pol_nogood::LogAnswer;
-use pol_optable::Classes;
+use pol_optable::{CLASSES, Classes};
 use pol_relation::{Instance, Language};
 use std::alloc::Global;
 
@@ -31,14 +31,15 @@ pub(crate) fn report_text(alloc: Global, file: &File) -> Result<Values, NoMemory
     Ok(text)
 }
 
-/// Appends the lines of the classes that are built, in their order.
+/// Appends the line of each class, in their order.
 fn put_class_lines(text: &mut Values, classes: &Classes) -> Result<(), NoMemory>
-    ensures lines { OnOk result (text.new
-        ≡ text.old ++ joined (λ class. class_line class (line_in classes.now class)) built) }
+    ensures puts { Puts result text.old text.new
+        (joined (λ class. class_line class (line_in classes.now class)) all_classes) }
 {
-    put_class_line(text, ClassName::Constant, &classes.constant)?;
-    put_class_line(text, ClassName::Majority, &classes.majority)?;
-    put_class_line(text, ClassName::Maltsev, &classes.maltsev)
+    for class in CLASSES {
+        put_class_line(text, class, classes)?;
+    }
+    Ok(())
 }
 
 /// Appends the items of the instances, in their order.
@@ -49,7 +50,7 @@ fn put_instances(
     classes: &Classes,
 ) -> Result<(), NoMemory>
     requires lines { AreLines file.now.language classes.now }
-    requires begun { HasItems file.now.language (map Subject.OfClass built) text.old }
+    requires begun { HasItems file.now.language (map Subject.OfClass all_classes) text.old }
     ensures all { OnOk result (HasItems file.now.language (subjects file.now) text.new) }
 {
     for i in 0..file.instances() {

@@ -14,4 +14,6 @@ pub use indicated::problem;
 pub use least::least_op;
 
 #[cfg(test)]
+mod semilattice_tests;
+#[cfg(test)]
 mod tests;

@@ -195,7 +195,7 @@ fn limits_on_tuples(rt: HostRuntime) -> Result<(), Fail> {
             2,
             6,
             b"end|",
-            b"polyanna-report 1|class constant 0 0|class majority none|class maltsev none|end|",
+            b"polyanna-report 1|class constant 0 0|class semilattice 0 0 0 1|class set-function 0 0 0|class majority none|class nu4 0 0 0 0 0 0 0 1 0 0 0 1 0 1 1 1|class affine none|class maltsev none|end|",
         ),
         (
             b"polyanna 1|domain 2|relation r 6|",
@@ -203,7 +203,7 @@ fn limits_on_tuples(rt: HostRuntime) -> Result<(), Fail> {
             2,
             6,
             b"end|",
-            b"polyanna-report 1|class constant 0 0|class majority none|class maltsev none|end|",
+            b"polyanna-report 1|class constant 0 0|class semilattice 0 0 0 1|class set-function 0 0 0|class majority none|class nu4 beyond|class affine none|class maltsev none|end|",
         ),
         (
             b"polyanna 1|domain 3|relation r 5|",
@@ -211,7 +211,7 @@ fn limits_on_tuples(rt: HostRuntime) -> Result<(), Fail> {
             3,
             5,
             b"end|",
-            b"polyanna-report 1|class constant 0 0 0|class majority none|class maltsev none|end|",
+            b"polyanna-report 1|class constant 0 0 0|class semilattice 0 0 0 0 1 0 0 0 2|class set-function 0 0 0 0 0 0 0|class majority none|class nu4 beyond|class affine none|class maltsev none|end|",
         ),
         (
             b"polyanna 1|domain 3|relation r 5|",
@@ -257,7 +257,7 @@ fn limits_on_sums_of_32_relations(rt: HostRuntime) -> Result<(), Fail> {
         (
             &subsets,
             b"relation last 1|end|",
-            b"polyanna-report 1|class constant 0 0 0 0|class majority 0 0 0 0 0 1 0 0 0 0 2 0 0 0 0 3 0 1 0 0 1 1 1 1 0 1 2 0 0 1 0 3 0 0 2 0 0 1 2 0 2 2 2 2 0 0 2 3 0 0 0 3 0 1 0 3 0 0 2 3 3 3 3 3|class maltsev 0 1 2 3 0 0 0 0 0 0 0 0 0 0 0 0 1 0 0 0 0 1 2 3 0 0 1 0 0 0 0 1 2 0 0 0 0 2 0 0 0 1 2 3 0 0 0 2 3 0 0 0 0 3 0 0 0 0 3 0 0 1 2 3|end|",
+            b"polyanna-report 1|class constant 0 0 0 0|class semilattice 0 0 0 0 0 1 0 0 0 0 2 0 0 0 0 3|class set-function 0 0 0 0 0 0 0 0 0 0 0 0 0 0 0|class majority 0 0 0 0 0 1 0 0 0 0 2 0 0 0 0 3 0 1 0 0 1 1 1 1 0 1 2 0 0 1 0 3 0 0 2 0 0 1 2 0 2 2 2 2 0 0 2 3 0 0 0 3 0 1 0 3 0 0 2 3 3 3 3 3|class nu4 0 0 0 0 0 0 0 0 0 0 0 0 0 0 0 0 0 0 0 0 0 1 0 0 0 0 0 0 0 0 0 0 0 0 0 0 0 0 0 0 0 0 2 0 0 0 0 0 0 0 0 0 0 0 0 0 0 0 0 0 0 0 0 3 0 0 0 0 0 1 0 0 0 0 0 0 0 0 0 0 0 1 0 0 1 1 1 1 0 1 0 0 0 1 0 0 0 0 0 0 0 1 0 0 0 0 2 0 0 0 0 0 0 0 0 0 0 1 0 0 0 0 0 0 0 0 0 3 0 0 0 0 0 0 0 0 0 0 2 0 0 0 0 0 0 0 0 0 0 1 0 0 0 0 2 0 0 0 0 0 0 0 2 0 0 0 2 0 2 2 2 2 0 0 2 0 0 0 0 0 0 0 0 0 0 0 2 0 0 0 0 3 0 0 0 0 0 0 0 0 0 0 0 0 0 0 0 3 0 0 0 0 0 1 0 0 0 0 0 0 0 0 0 3 0 0 0 0 0 0 0 0 0 0 2 0 0 0 0 3 0 0 0 3 0 0 0 3 0 0 0 3 3 3 3 3|class affine none|class maltsev 0 1 2 3 0 0 0 0 0 0 0 0 0 0 0 0 1 0 0 0 0 1 2 3 0 0 1 0 0 0 0 1 2 0 0 0 0 2 0 0 0 1 2 3 0 0 0 2 3 0 0 0 0 3 0 0 0 0 3 0 0 1 2 3|end|",
         ),
         (
             &subsets,
@@ -267,7 +267,7 @@ fn limits_on_sums_of_32_relations(rt: HostRuntime) -> Result<(), Fail> {
         (
             &triples,
             b"end|",
-            b"polyanna-report 1|class constant 0 0|class majority 0 0 0 1 0 1 1 1|class maltsev none|end|",
+            b"polyanna-report 1|class constant 0 0|class semilattice 0 0 0 1|class set-function 0 0 0|class majority 0 0 0 1 0 1 1 1|class nu4 beyond|class affine none|class maltsev none|end|",
         ),
         (
             &triples,

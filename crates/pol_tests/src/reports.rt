@@ -7,59 +7,86 @@ fn reports_of_small_files(rt: HostRuntime) -> Result<(), Fail> {
     let cases: [(&[u8], &[u8]); 14] = [
         (
             b"polyanna 1|domain 2|end|",
-            b"polyanna-report 1|class constant 0 0|class majority 0 0 0 1 0 1 1 1|class maltsev 0 1 0 0 1 0 0 1|end|",
+            b"polyanna-report 1|class constant 0 0|class semilattice 0 0 0 1|class set-function 0 0 0|class majority 0 0 0 1 0 1 1 1|class nu4 0 0 0 0 0 0 0 1 0 0 0 1 0 1 1 1|class affine 0 1 1 0 1 0 0 1|class maltsev 0 1 0 0 1 0 0 1|end|",
         ),
         (
             b"polyanna 1|domain 2|relation one 1|tuple 1|end|",
-            b"polyanna-report 1|class constant 1 1|class majority 0 0 0 1 0 1 1 1|class maltsev 0 1 0 0 1 0 0 1|end|",
+            b"polyanna-report 1|class constant 1 1|class semilattice 0 0 0 1|class set-function 0 1 0|class majority 0 0 0 1 0 1 1 1|class nu4 0 0 0 0 0 0 0 1 0 0 0 1 0 1 1 1|class affine 0 1 1 0 1 0 0 1|class maltsev 0 1 0 0 1 0 0 1|end|",
         ),
         (
             b"polyanna 1|domain 2|relation neq 2|tuple 0 1|tuple 1 0|end|",
-            b"polyanna-report 1|class constant none|class majority 0 0 0 1 0 1 1 1|class maltsev 0 1 0 0 1 1 0 1|end|",
+            b"polyanna-report 1|class constant none|class semilattice none|class set-function none|class majority 0 0 0 1 0 1 1 1|class nu4 0 0 0 0 0 0 0 1 0 1 1 1 1 1 1 1|class affine 0 1 1 0 1 0 0 1|class maltsev 0 1 0 0 1 1 0 1|end|",
         ),
         (
             b"polyanna 1|domain 1|relation r 1|tuple 0|instance u x|constraint r x|end|",
-            b"polyanna-report 1|class constant 0|class majority 0|class maltsev 0|instance u yes constant 0|end|",
+            b"polyanna-report 1|class constant 0|class semilattice 0|class set-function 0|class majority 0|class nu4 0|class affine none|class maltsev 0|instance u yes constant 0|end|",
         ),
         (
             b"polyanna 1|domain 2|relation e 1|instance z x|constraint e x|end|",
-            b"polyanna-report 1|class constant 0 0|class majority 0 0 0 1 0 1 1 1|class maltsev 0 1 0 0 1 0 0 1|instance z no constant 1|c 0 0 0|end|",
+            b"polyanna-report 1|class constant 0 0|class semilattice 0 0 0 1|class set-function 0 0 0|class majority 0 0 0 1 0 1 1 1|class nu4 0 0 0 0 0 0 0 1 0 0 0 1 0 1 1 1|class affine 0 1 1 0 1 0 0 1|class maltsev 0 1 0 0 1 0 0 1|instance z no constant 1|c 0 0 0|end|",
         ),
         (
             b"polyanna 1\r|domain 2\r|relation one 1\r|tuple 1\r|tuple 1\r|end\r|",
-            b"polyanna-report 1|class constant 1 1|class majority 0 0 0 1 0 1 1 1|class maltsev 0 1 0 0 1 0 0 1|end|",
+            b"polyanna-report 1|class constant 1 1|class semilattice 0 0 0 1|class set-function 0 1 0|class majority 0 0 0 1 0 1 1 1|class nu4 0 0 0 0 0 0 0 1 0 0 0 1 0 1 1 1|class affine 0 1 1 0 1 0 0 1|class maltsev 0 1 0 0 1 0 0 1|end|",
         ),
         (
             b"polyanna 1|domain 2|relation neq 2|tuple 0 1|tuple 1 0|relation zero 1|tuple 0|instance p x y|constraint zero x|constraint neq x y|end|",
-            b"polyanna-report 1|class constant none|class majority 0 0 0 1 0 1 1 1|class maltsev 0 1 0 0 1 1 0 1|instance p undecided|end|",
+            b"polyanna-report 1|class constant none|class semilattice none|class set-function none|class majority 0 0 0 1 0 1 1 1|class nu4 0 0 0 0 0 0 0 1 0 1 1 1 1 1 1 1|class affine 0 1 1 0 1 0 0 1|class maltsev 0 1 0 0 1 1 0 1|instance p undecided|end|",
         ),
         (
             b"polyanna 1|domain 3|relation le 2|tuple 2 2|tuple 1 1|relation e 1|instance a x y|constraint le x y|instance b x|constraint le x x|constraint e x|constraint e x|end|",
-            b"polyanna-report 1|class constant 1 1 1|class majority 0 0 0 0 1 0 0 0 2 0 1 0 1 1 1 0 1 2 0 0 2 0 1 2 2 2 2|class maltsev 0 1 2 0 0 0 0 0 0 1 0 0 0 1 2 0 1 1 2 0 0 0 2 1 0 1 2|instance a yes constant 1 1|instance b no constant 1|c 1 0 0|end|",
+            b"polyanna-report 1|class constant 1 1 1|class semilattice 0 0 0 0 1 1 0 1 2|class set-function 0 1 0 1 0 1 0|class majority 0 0 0 0 1 0 0 0 2 0 1 0 1 1 1 0 1 2 0 0 2 0 1 2 2 2 2|class nu4 0 0 0 0 0 0 0 0 0 0 0 0 0 1 0 0 0 0 0 0 0 0 0 0 0 0 2 0 0 0 0 1 0 0 0 0 0 1 0 1 1 1 0 1 1 0 0 0 0 1 1 0 1 2 0 0 0 0 0 0 0 0 2 0 0 0 0 1 1 0 1 2 0 0 2 0 1 2 2 2 2|class affine none|class maltsev 0 1 2 0 0 0 0 0 0 1 0 0 0 1 2 0 1 1 2 0 0 0 2 1 0 1 2|instance a yes constant 1 1|instance b no constant 1|c 1 0 0|end|",
         ),
         (
             b"# a comment||polyanna 1|\t domain\t2|  # another|relation r 0002|tuple 1 1|instance i x|end",
-            b"polyanna-report 1|class constant 1 1|class majority 0 0 0 1 0 1 1 1|class maltsev 0 1 0 0 1 0 0 1|instance i yes constant 1|end|",
+            b"polyanna-report 1|class constant 1 1|class semilattice 0 0 0 1|class set-function 0 1 0|class majority 0 0 0 1 0 1 1 1|class nu4 0 0 0 0 0 0 0 1 0 0 0 1 0 1 1 1|class affine 0 1 1 0 1 0 0 1|class maltsev 0 1 0 0 1 0 0 1|instance i yes constant 1|end|",
         ),
         (
             b"polyanna 1|domain 2|relation neq 2|tuple 0 1|tuple 1 0|instance tri x y z|constraint neq x y|constraint neq y z|constraint neq z x|end|",
-            b"polyanna-report 1|class constant none|class majority 0 0 0 1 0 1 1 1|class maltsev 0 1 0 0 1 1 0 1|instance tri undecided|end|",
+            b"polyanna-report 1|class constant none|class semilattice none|class set-function none|class majority 0 0 0 1 0 1 1 1|class nu4 0 0 0 0 0 0 0 1 0 1 1 1 1 1 1 1|class affine 0 1 1 0 1 0 0 1|class maltsev 0 1 0 0 1 1 0 1|instance tri undecided|end|",
         ),
         (
             b"polyanna 1|domain 3|relation neq 2|tuple 0 1|tuple 0 2|tuple 1 0|tuple 1 2|tuple 2 0|tuple 2 1|instance one x y|constraint neq x y|end|",
-            b"polyanna-report 1|class constant none|class majority none|class maltsev none|instance one undecided|end|",
+            b"polyanna-report 1|class constant none|class semilattice none|class set-function none|class majority none|class nu4 none|class affine none|class maltsev none|instance one undecided|end|",
         ),
         (
             b"polyanna 1|domain 2|relation h 3|tuple 0 0 0|tuple 0 0 1|tuple 0 1 0|tuple 0 1 1|tuple 1 0 0|tuple 1 0 1|tuple 1 1 1|relation zero 1|tuple 0|relation one 1|tuple 1|instance a p q r|constraint one p|constraint one q|constraint h p q r|constraint zero r|instance b p q r|constraint one p|constraint one q|constraint h p q r|end|",
-            b"polyanna-report 1|class constant none|class majority none|class maltsev none|instance a undecided|instance b undecided|end|",
+            b"polyanna-report 1|class constant none|class semilattice 0 0 0 1|class set-function 0 1 0|class majority none|class nu4 none|class affine none|class maltsev none|instance a undecided|instance b undecided|end|",
         ),
         (
             b"polyanna 1|domain 3|relation s0 3|tuple 0 0 0|tuple 0 1 2|tuple 0 2 1|tuple 1 0 2|tuple 1 1 1|tuple 1 2 0|tuple 2 0 1|tuple 2 1 0|tuple 2 2 2|relation s1 3|tuple 0 0 1|tuple 0 1 0|tuple 0 2 2|tuple 1 0 0|tuple 1 1 2|tuple 1 2 1|tuple 2 0 2|tuple 2 1 1|tuple 2 2 0|relation zero 1|tuple 0|instance i x y z|constraint s0 x y z|constraint s1 x y z|instance j x y|constraint zero x|constraint s1 x x y|end|",
-            b"polyanna-report 1|class constant none|class majority none|class maltsev 0 1 2 2 0 1 1 2 0 1 2 0 0 1 2 2 0 1 2 0 1 1 2 0 0 1 2|instance i undecided|instance j undecided|end|",
+            b"polyanna-report 1|class constant none|class semilattice none|class set-function none|class majority none|class nu4 none|class affine 0 1 2 2 0 1 1 2 0 1 2 0 0 1 2 2 0 1 2 0 1 1 2 0 0 1 2|class maltsev 0 1 2 2 0 1 1 2 0 1 2 0 0 1 2 2 0 1 2 0 1 1 2 0 0 1 2|instance i undecided|instance j undecided|end|",
         ),
         (
             b"polyanna 1|domain 3|relation parity 3|tuple 0 0 0|tuple 0 1 1|tuple 1 0 1|tuple 1 1 0|relation swap 2|tuple 0 1|tuple 1 0|tuple 2 2|relation two 1|tuple 2|end|",
-            b"polyanna-report 1|class constant none|class majority none|class maltsev 0 1 2 1 0 0 0 0 0 1 0 1 0 1 2 1 1 1 2 0 0 1 2 1 0 1 2|end|",
+            b"polyanna-report 1|class constant none|class semilattice none|class set-function none|class majority none|class nu4 none|class affine none|class maltsev 0 1 2 1 0 0 0 0 0 1 0 1 0 1 2 1 1 1 2 0 0 1 2 1 0 1 2|end|",
+        ),
+    ];
+    for (input, report) in cases {
+        assert_written(&rt, alloc, lines(alloc, input)?.as_slice(), report)?;
+    }
+    Ok(())
+}
+
+#[test]
+fn reports_of_further_classes(rt: HostRuntime) -> Result<(), Fail> {
+    let alloc = rt.alloc();
+    let cases: [(&[u8], &[u8]); 4] = [
+        (
+            b"polyanna 1|domain 2|relation r 6|tuple 0 0 0 0 0 0|tuple 0 0 0 0 0 1|tuple 0 0 0 0 1 0|tuple 0 0 0 0 1 1|tuple 0 0 0 1 0 0|tuple 0 0 0 1 0 1|tuple 0 0 0 1 1 0|tuple 0 0 0 1 1 1|tuple 0 0 1 0 0 0|tuple 0 0 1 0 0 1|tuple 0 0 1 0 1 0|tuple 0 0 1 0 1 1|tuple 0 0 1 1 0 0|tuple 0 0 1 1 0 1|tuple 0 0 1 1 1 0|tuple 0 0 1 1 1 1|tuple 0 1 0 0 0 0|tuple 0 1 0 0 0 1|tuple 0 1 0 0 1 0|tuple 0 1 0 0 1 1|tuple 0 1 0 1 0 0|tuple 0 1 0 1 0 1|tuple 0 1 0 1 1 0|tuple 0 1 0 1 1 1|tuple 0 1 1 0 0 0|tuple 0 1 1 0 0 1|tuple 0 1 1 0 1 0|tuple 0 1 1 0 1 1|tuple 0 1 1 1 0 0|tuple 0 1 1 1 0 1|tuple 0 1 1 1 1 0|tuple 0 1 1 1 1 1|tuple 1 0 0 0 0 0|tuple 1 0 0 0 0 1|tuple 1 0 0 0 1 0|tuple 1 0 0 0 1 1|tuple 1 0 0 1 0 0|tuple 1 0 0 1 0 1|end|",
+            b"polyanna-report 1|class constant 0 0|class semilattice 0 0 0 1|class set-function 0 0 0|class majority none|class nu4 0 0 0 0 0 0 0 1 0 0 0 1 0 1 1 1|class affine none|class maltsev none|end|",
+        ),
+        (
+            b"polyanna 1|domain 2|relation r 6|tuple 0 0 0 0 0 0|tuple 0 0 0 0 0 1|tuple 0 0 0 0 1 0|tuple 0 0 0 0 1 1|tuple 0 0 0 1 0 0|tuple 0 0 0 1 0 1|tuple 0 0 0 1 1 0|tuple 0 0 0 1 1 1|tuple 0 0 1 0 0 0|tuple 0 0 1 0 0 1|tuple 0 0 1 0 1 0|tuple 0 0 1 0 1 1|tuple 0 0 1 1 0 0|tuple 0 0 1 1 0 1|tuple 0 0 1 1 1 0|tuple 0 0 1 1 1 1|tuple 0 1 0 0 0 0|tuple 0 1 0 0 0 1|tuple 0 1 0 0 1 0|tuple 0 1 0 0 1 1|tuple 0 1 0 1 0 0|tuple 0 1 0 1 0 1|tuple 0 1 0 1 1 0|tuple 0 1 0 1 1 1|tuple 0 1 1 0 0 0|tuple 0 1 1 0 0 1|tuple 0 1 1 0 1 0|tuple 0 1 1 0 1 1|tuple 0 1 1 1 0 0|tuple 0 1 1 1 0 1|tuple 0 1 1 1 1 0|tuple 0 1 1 1 1 1|tuple 1 0 0 0 0 0|tuple 1 0 0 0 0 1|tuple 1 0 0 0 1 0|tuple 1 0 0 0 1 1|tuple 1 0 0 1 0 0|tuple 1 0 0 1 0 1|tuple 1 0 0 1 1 0|end|",
+            b"polyanna-report 1|class constant 0 0|class semilattice 0 0 0 1|class set-function 0 0 0|class majority none|class nu4 beyond|class affine none|class maltsev none|end|",
+        ),
+        (
+            b"polyanna 1|domain 3|relation pp 3|tuple 0 0 0|tuple 0 2 2|tuple 2 0 2|tuple 2 2 0|relation one 1|tuple 1|instance a x|constraint one x|instance b x y|constraint one x|constraint pp x y y|end|",
+            b"polyanna-report 1|class constant none|class semilattice none|class set-function 0 1 0 0 0 0 0|class majority none|class nu4 none|class affine none|class maltsev 0 1 2 0 0 0 2 0 0 1 0 0 0 1 2 0 0 1 2 0 0 0 2 0 0 1 2|instance a undecided|instance b undecided|end|",
+        ),
+        (
+            b"polyanna 1|domain 3|relation qq 3|tuple 0 0 0|tuple 0 0 1|tuple 0 1 0|tuple 0 1 1|tuple 1 0 0|tuple 1 0 1|tuple 1 1 0|relation nn 2|tuple 0 2|tuple 2 0|instance a x y|constraint qq x x x|constraint nn x y|instance b x|constraint qq x x x|constraint nn x x|end|",
+            b"polyanna-report 1|class constant none|class semilattice none|class set-function none|class majority none|class nu4 0 0 0 0 0 0 0 0 0 0 0 0 0 1 0 0 0 0 0 0 0 0 0 0 0 0 2 0 0 0 0 1 0 0 0 0 0 1 0 1 1 1 0 1 0 0 0 0 0 1 0 0 0 2 0 0 2 0 0 0 2 0 2 0 0 0 0 1 0 0 0 2 2 0 2 0 0 2 2 2 2|class affine none|class maltsev none|instance a undecided|instance b undecided|end|",
         ),
     ];
     for (input, report) in cases {

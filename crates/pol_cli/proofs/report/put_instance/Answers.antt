@@ -1,4 +1,4 @@
-use Rattle.std.proofs.Common.{◌≡◌, Some, option_map, ap, sym, ◌∙◌, subst, lit<, rules}
+use Rattle.std.proofs.Common.{◌≡◌, Some, option_map, ap, sym, ◌∙◌, subst, rules}
 use Rattle.pol_base.specs.declared.class_name.ClassName.TheVariants.{Constant}
 use Rattle.pol_optable.specs.ClassLines.{ClassLine, HoldsTable}
 use Rattle.pol_optable.specs.ClassLines.Line.{Sought}
@@ -12,7 +12,7 @@ use Rattle.pol_cli.proofs.report.put_instance.Goals as goal
 -- the line of `constant` is the one that was found
 pub put_answer-requires-clause-line : goal.put_answer-requires-clause-line
 put_answer-requires-clause-line c =
-    let line = c.requires.lines.lines 0 Constant (lit< tt) in
+    let line = c.requires.lines Constant in
     let cells : option_map (λ f. f.cells) c.args.classes.now.constant ≡ Some c.cells.result.now
     = ap (λ table. option_map (λ f. f.cells) table) c.in-Some-Constant-Some.is-1
     ∙ ap (λ cells. Some cells) (sym c.cells.ensures.cells) in
