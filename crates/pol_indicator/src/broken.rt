@@ -24,6 +24,18 @@ struct Part {
     end: u32,
 }
 
+impl Part {
+    /// The lists of the part that begin with its first row.
+    fn beginning(self) -> Part
+        ensures relation { result.relation ≡ self.relation }
+    {
+        Part {
+            end: self.end.min(self.first.saturating_add(1)),
+            ..self
+        }
+    }
+}
+
 /// Whether the operation preserves each relation. If it does not, some constraints that it breaks are
 /// added; the look for them begins at the place, goes around, and leaves the place where it ended.
 pub(crate) fn add_broken<const K: usize>(
@@ -93,7 +105,8 @@ fn add_relations<const K: usize>(
     Ok(kept)
 }
 
-/// The same of a part of the lists of rows.
+/// The same of a part of the lists of rows. Where the look has added constraints, only the beginning of the part is
+/// looked at: to go over all lists of a relation that is kept costs more than one table more.
 fn add_part<const K: usize>(
     rows: &RowSets<'_>,
     table: &OpTable<K>,
@@ -117,15 +130,17 @@ fn add_part<const K: usize>(
         Some(set) => set,
         None => return Ok(true),
     };
-    if pool.len() - from >= MOST_ADDED {
+    let added = pool.len() - from;
+    if added >= MOST_ADDED {
         return Ok(false);
     }
     // for its clause that the relation is one over the domain
     let _relation = rows.language().relation(part.relation);
-    match first_broken(&set, table, part) {
-        None => Ok(true),
+    let looked_at = if added == 0 { part } else { part.beginning() };
+    match first_broken(&set, table, looked_at) {
+        None => Ok(added == 0),
         Some(numbers) => {
-            add_lists(rows, table, part, numbers, place, pool)?;
+            add_lists(rows, table, looked_at, numbers, place, pool)?;
             Ok(false)
         }
     }
