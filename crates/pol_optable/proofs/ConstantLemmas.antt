@@ -151,15 +151,15 @@ constant_line_none lang is none = (
       none other.value other.below other.closed,
 )
 
--- the value of the operation whose table is the line
-pub record IsLineValue (lang : LanguageView) (cells : List ℕ) : Type 0 where
+-- the value of the operation with the table
+pub record IsTableValue (lang : LanguageView) (cells : List ℕ) : Type 0 where
   pub some_cells : 0 < length cells
   pub below : get_or cells 0 0 < lang.domain
   pub closed : ClosedUnder lang (get_or cells 0 0)
 
-pub line_value : (lang : LanguageView) (cells : List ℕ) → IsLanguage lang → ClassLine Constant lang (Sought (Some cells)) → IsLineValue lang cells
-line_value lang cells is line =
-    let closed = closed_from_table lang cells is line.1.holds in
+pub table_value : (lang : LanguageView) (cells : List ℕ) → IsLanguage lang → IsTable IsConstant 1 lang cells → IsTableValue lang cells
+table_value lang cells is table =
+    let closed = closed_from_table lang cells is table in
     let same : get_or cells 0 0 ≡ closed.value = ap (λ some. get_or some 0 0) closed.cells_are ∙ get_or-replicate lang.domain 0 closed.value 0 is.domain_is.some in
     record {
       some_cells = omega (arith, ap length closed.cells_are, length-replicate lang.domain closed.value, is.domain_is.some);

@@ -1,9 +1,9 @@
 -- The tables of the classes that were found, and the first class that has one.
-use Rattle.std.specs.Prelude.{Option, Some, None, option_map, All}
+use Rattle.std.specs.Prelude.{Option, Some, None, option_map, All, ⊤}
 use Rattle.pol_base.specs.declared.class_name.ClassName.{ClassName}
 use Rattle.pol_base.specs.declared.class_name.ClassName.TheVariants.{Constant, Semilattice, SetFunction, Majority, Nu4, Affine, Maltsev}
 use Rattle.pol_relation.specs.Relations.{LanguageView}
-use Rattle.pol_optable.specs.ClassLines.{Line, ClassLine, HoldsTable, IsFirstOf, all_classes}
+use Rattle.pol_optable.specs.ClassLines.{Line, ClassLine, IsTableOf, HoldsTable, IsFirstOf, all_classes}
 use Rattle.pol_optable.specs.ClassLines.Line.{Beyond, Sought}
 use Rattle.pol_optable.specs.declared.classes.Classes.{Classes}
 use Rattle.pol_optable.specs.declared.classes.Nu4.{Nu4 as Nu4Line}
@@ -41,3 +41,13 @@ FirstFound classes (Some class) = IsFirstOf (HasTable classes) all_classes class
 -- the line of each class for the language was found
 abbrev pub AreLines : LanguageView → Classes → Type 0
 AreLines lang classes = (class : ClassName) → ClassLine class lang (line_in classes class)
+
+-- the line holds no table, or one of the class for the language
+abbrev pub HoldsNoOther : ClassName → LanguageView → Line → Type 0
+HoldsNoOther class lang Beyond = ⊤
+HoldsNoOther class lang (Sought None) = ⊤
+HoldsNoOther class lang (Sought (Some cells)) = IsTableOf class lang cells
+
+-- each table that was found is one of its class for the language
+abbrev pub AreTables : LanguageView → Classes → Type 0
+AreTables lang classes = (class : ClassName) → HoldsNoOther class lang (line_in classes class)
