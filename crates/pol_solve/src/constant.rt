@@ -1,6 +1,7 @@
-ghost use Rattle.std.specs.Prelude.{◌≡◌, ◌<◌, [], length, replicate, IfOk, IfSome, IfNone};
-ghost use Rattle.pol_optable.specs.Constants.{ClosedUnder};
-ghost use Rattle.pol_cli.specs.Solving.{IsFirstEmpty, NoRestsOnFirstEmpty};
+ghost use Rattle.std.specs.Prelude.{◌≡◌, [], length, replicate, IfOk, IfSome, IfNone};
+ghost use Rattle.pol_base.specs.declared.class_name.ClassName.TheVariants.{Constant};
+ghost use Rattle.pol_optable.specs.ClassLines.{IsTableOf};
+ghost use Rattle.pol_solve.specs.Solving.{IsFirstEmpty, NoRestsOnFirstEmpty};
 ghost use Rattle.pol_relation.specs.Relations.{rows_of};
 ghost use Rattle.pol_relation.specs.Instances.{Fits, UsesRows, constraint_of};
 ghost use Rattle.pol_nogood.specs.Logs.{breaking_log};
@@ -8,26 +9,28 @@ ghost use Rattle.pol_nogood.specs.Answers.{YesSolves, NoOnlyWithoutSolution, NoH
 
 use pol_base::{NoMemory, Numbers, Values};
 use pol_nogood::{Log, LogAnswer, Nogood, Step};
+use pol_optable::OpTable;
 use pol_relation::{Instance, Language};
 use std::alloc::Global;
 
-/// Solves an instance over a language that the constant operation of this value preserves: the
-/// constant assignment is a solution, unless a constraint uses an empty relation. Then the log has
-/// one step, by the first such constraint.
-pub(crate) fn solve_constant(
+/// Solves an instance over a language that a constant operation preserves: the constant assignment is
+/// a solution, unless a constraint uses an empty relation. Then the log has one step, by the first
+/// such constraint.
+pub fn solve_constant(
     alloc: Global,
     lang: &Language,
     inst: &Instance,
-    value: u8,
+    op: &OpTable<1>,
 ) -> Result<LogAnswer, NoMemory>
     requires fits { Fits lang.now inst.now }
-    requires value { value < lang.now.domain }
-    requires closed { ClosedUnder lang.now value }
+    requires table { IsTableOf Constant lang.now op.now.cells }
     ensures yes { IfOk result (YesSolves lang.now inst.now) }
     ensures no_only_without_solution { IfOk result (NoOnlyWithoutSolution lang.now inst.now) }
     ensures certificate { IfOk result (NoHasCertificate 1 lang.now inst.now) }
     ensures first { IfOk result (NoRestsOnFirstEmpty lang.now inst.now) }
 {
+    let _domain = lang.domain();
+    let value = op.cells()[0];
     match first_without_rows(lang, inst) {
         Some(c) => Ok(LogAnswer::No(breaking_log(alloc, c)?)),
         None => Ok(LogAnswer::Yes(constant_assignment(alloc, inst.variables(), value)?)),

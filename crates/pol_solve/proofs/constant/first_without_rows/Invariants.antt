@@ -1,7 +1,7 @@
 use Rattle.std.proofs.Common.{◌≢◌, ℕ, ◌<◌, []}
 use Rattle.pol_relation.specs.Relations.{rows_of}
 use Rattle.pol_relation.specs.Instances.{constraint_of}
-use Rattle.pol_cli.proofs.solving.first_without_rows.Given as goal
+use Rattle.pol_solve.proofs.constant.first_without_rows.Given as goal
 
 -- the constraints so far have rows
 abbrev pub invariant-loop-c : goal.invariant-loop-c

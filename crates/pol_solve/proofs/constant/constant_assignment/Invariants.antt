@@ -1,5 +1,5 @@
 use Rattle.std.proofs.Common.{◌≡◌, replicate}
-use Rattle.pol_cli.proofs.solving.constant_assignment.Given as goal
+use Rattle.pol_solve.proofs.constant.constant_assignment.Given as goal
 
 abbrev pub invariant-loop : goal.invariant-loop
 invariant-loop l = l.values ≡ replicate l.counter l.value

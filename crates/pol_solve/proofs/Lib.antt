@@ -1,0 +1,2 @@
+pub mod ConstantSolutions
+pub mod FoundTables
