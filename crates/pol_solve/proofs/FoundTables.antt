@@ -1,10 +1,10 @@
 -- Tables that were found, as operations on the domain of the language.
-use Rattle.std.proofs.Common.{◌≡◌, ℕ, ◌*◌, ◌+◌, ◌-◌, ◌^◌, ◌<◌, ◌≤◌, ◌⊎◌, inl, inr, List, length, arith, ap, sym, ◌∙◌, subst, refl, suc, get_or}
-use Rattle.std.proofs.Math.Nat.{one-le-pow, pow-suc, pow-le-pow_left, pow-le-pow_right, mul-le-mul_left, mul-le-mul_right}
+use Rattle.std.proofs.Common.{◌≡◌, ℕ, ◌*◌, ◌-◌, ◌^◌, ◌<◌, ◌≤◌, inl, inr, List, arith, ap, sym, ◌∙◌, subst, suc, get_or}
+use Rattle.std.proofs.Math.Nat.{one-le-pow, pow-suc, pow-le-pow_left, mul-le-mul_left, mul-le-mul_right}
 use Rattle.std.proofs.Math.Pow.{pow-lt}
 use Rattle.std.proofs.lemmas.Bool.{cases_lt}
 use Rattle.pol_relation.specs.Relations.{LanguageView, IsLanguage}
-use Rattle.pol_optable.specs.Operations.{Operation, operation_of, IsOperation, IsPolymorphism}
+use Rattle.pol_optable.specs.Operations.{Operation, operation_of, IsPolymorphism}
 use Rattle.pol_optable.specs.Identities.{IsSemilattice}
 use Rattle.pol_optable.specs.Tables.{IsOpTable}
 use Rattle.pol_optable.specs.SetFunctions.{SetFunctionView, IsSetFunction, IsSetPolymorphism}

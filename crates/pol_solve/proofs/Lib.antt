@@ -1,2 +1,3 @@
 pub mod ConstantSolutions
 pub mod FoundTables
+pub mod FirstAnswers

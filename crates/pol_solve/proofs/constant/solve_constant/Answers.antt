@@ -1,4 +1,4 @@
-use Rattle.std.proofs.Common.{◌≡◌, ◌<◌, length, replicate, ap, sym, subst, ◌∙◌, get_or}
+use Rattle.std.proofs.Common.{◌<◌, length, replicate, ap, sym, subst, ◌∙◌, get_or}
 use Rattle.pol_relation.specs.Instances.{IsSolution}
 use Rattle.pol_nogood.specs.Logs.{breaking_log}
 use Rattle.pol_nogood.proofs.LogSound.{valid_log_sound}

@@ -1,0 +1,44 @@
+-- What each class owes an instance, and what is answered by the first class of which a table was found.
+use Rattle.std.specs.Prelude.{◌≡◌, ℕ, Option, Some, None}
+use Rattle.pol_base.specs.declared.class_name.ClassName.{ClassName}
+use Rattle.pol_base.specs.declared.class_name.ClassName.TheVariants.{Constant, Semilattice, SetFunction, Majority, Nu4, Affine, Maltsev}
+use Rattle.pol_relation.specs.Relations.{LanguageView}
+use Rattle.pol_relation.specs.Instances.{InstanceView, IsSolution, HasNoSolution}
+use Rattle.pol_nogood.specs.Answers.{IsCertificate}
+use Rattle.pol_nogood.specs.Trims.{AreReferredTo}
+use Rattle.pol_optable.specs.Choices.{FirstFound}
+use Rattle.pol_optable.specs.declared.classes.Classes.{Classes}
+use Rattle.pol_solve.specs.declared.answering.InstanceAnswer.{InstanceAnswer}
+use Rattle.pol_solve.specs.declared.answering.InstanceAnswer.TheVariants as answer
+
+-- how many pairs the nogoods of a log have at most that shows a No of the class; none where the class has no solver
+abbrev pub most_pairs : ClassName → Option ℕ
+most_pairs Constant = Some 1
+most_pairs Semilattice = Some 1
+most_pairs SetFunction = Some 1
+most_pairs Majority = Some 2
+most_pairs Nu4 = Some 3
+most_pairs Affine = None
+most_pairs Maltsev = None
+
+-- a solution, or where there is none a log whose nogoods have at most so many pairs, and of which each step but the
+-- last is referred to
+abbrev pub IsLogAnswer : ℕ → LanguageView → InstanceView → InstanceAnswer → Type 0
+IsLogAnswer most lang inst (answer.Yes values) = IsSolution lang inst values
+IsLogAnswer most lang inst (answer.NoLog log) = HasNoSolution lang inst × IsCertificate most lang inst log × AreReferredTo log
+IsLogAnswer most lang inst answer.Undecided = ⊥
+
+-- an answer with such a log, and undecided where there is no solver
+abbrev pub AnswersByLog : Option ℕ → LanguageView → InstanceView → InstanceAnswer → Type 0
+AnswersByLog None lang inst given = given ≡ answer.Undecided
+AnswersByLog (Some most) lang inst given = IsLogAnswer most lang inst given
+
+-- the answer that the class owes, and undecided where there is none
+abbrev pub AnswersBy : Option ClassName → LanguageView → InstanceView → InstanceAnswer → Type 0
+AnswersBy None lang inst given = given ≡ answer.Undecided
+AnswersBy (Some class) lang inst given = AnswersByLog (most_pairs class) lang inst given
+
+-- the answer that the first class owes of which a table was found
+abbrev pub AnswersByFirst : LanguageView → InstanceView → Classes → InstanceAnswer → Type 0
+AnswersByFirst lang inst classes given =
+    (first : Option ClassName) → FirstFound classes first → AnswersBy first lang inst given
