@@ -96,10 +96,7 @@ fn renumbered(alloc: Global, references: &[u32], numbers: &[u32]) -> Result<Numb
 {
     let mut new = Numbers::new(alloc);
     for reference in references {
-        new.push(match numbers.get(*reference as usize) {
-            Some(number) => *number,
-            None => *reference,
-        })?;
+        new.push(*numbers.get(*reference as usize).unwrap_or(reference))?;
     }
     Ok(new)
 }
