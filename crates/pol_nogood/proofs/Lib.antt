@@ -9,4 +9,6 @@ pub mod LogLemmas
 pub mod LogMaking
 pub mod LogSound
 pub mod LogWalks
+pub mod MarkLemmas
 pub mod PackedPairs
+pub mod TrimLemmas

@@ -6,11 +6,13 @@ mod checking;
 mod laws;
 mod log;
 mod nogood;
+mod trimming;
 
 pub use checking::{LogFault, Why, check_log};
 pub use laws::{fault_laws, log_laws};
 pub use log::{Log, LogAnswer, Step};
 pub use nogood::Nogood;
+pub use trimming::trimmed;
 
 #[cfg(test)]
 mod tests;

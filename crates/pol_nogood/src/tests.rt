@@ -1,6 +1,6 @@
 ghost use Rattle.std.specs.Prelude.{◌≡◌, ◌+◌, ◌^◌, ◌≤◌, length, OnOk};
 
-use crate::{Log, LogFault, Nogood, Step, Why, check_log};
+use crate::{Log, LogFault, Nogood, Step, Why, check_log, trimmed};
 use pol_base::{Domain, NoMemory, Numbers};
 use pol_relation::{Instance, Language, Relation};
 use std::alloc::Global;
@@ -85,6 +85,36 @@ static CHANGED: [(usize, &'static [Written], Why); 11] = [
     (7, &[(By::Variable(0), &[(0, 0)], &[4, 6])], Why::BadPlace),
 ];
 
+/// The last step does not lead to steps 1 and 4, and refers to a step that is not there.
+static LOOSE: [Written; 6] = [
+    (By::Constraint(0), &[(0, 0), (1, 0)], &[]),
+    (By::Constraint(1), &[(0, 1)], &[]),
+    (By::Constraint(2), &[(2, 0)], &[]),
+    (By::Variable(1), &[(3, 1)], &[0, 2]),
+    (By::Variable(2), &[], &[1, 3]),
+    (By::Variable(0), &[(4, 2)], &[3, 2, 9]),
+];
+
+/// What the last step of that log leads to.
+static KEPT: [Written; 4] = [
+    (By::Constraint(0), &[(0, 0), (1, 0)], &[]),
+    (By::Constraint(2), &[(2, 0)], &[]),
+    (By::Variable(1), &[(3, 1)], &[0, 1]),
+    (By::Variable(0), &[(4, 2)], &[2, 1, 9]),
+];
+
+fn loose() -> &'static [Written]
+    ensures steps { length result.now ≡ 6 }
+{
+    &LOOSE
+}
+
+fn kept() -> &'static [Written]
+    ensures steps { length result.now ≡ 4 }
+{
+    &KEPT
+}
+
 fn triangle() -> &'static [Written]
     ensures steps { length result.now ≡ 11 }
 {
@@ -132,6 +162,19 @@ fn two_constraints_are_not_refuted_by_the_log(rt: HostRuntime) -> Result<(), Fai
 #[test]
 fn a_nogood_takes_16_bytes(rt: HostRuntime) -> Result<(), Fail> {
     assert_eq!(rt; size_of::<Nogood>(), 16);
+    Ok(())
+}
+
+#[test]
+fn steps_that_the_last_does_not_lead_to_are_left_out(rt: HostRuntime) -> Result<(), Fail> {
+    let mut log = Log::new(rt.alloc());
+    assert!(rt; trimmed(rt.alloc(), &log)?.is_empty());
+    push_steps(rt.alloc(), &mut log, loose())?;
+    let part = trimmed(rt.alloc(), &log)?;
+    assert_eq!(rt; part.len() as usize, kept().len());
+    for (s, written) in kept().iter().enumerate() {
+        assert!(rt; is_written(part.step(s as u32), written), "at {s}");
+    }
     Ok(())
 }
 
@@ -196,4 +239,28 @@ fn nogood_of(pairs: &[(u32, u8)]) -> Nogood {
         nogood.push(*variable, *value);
     }
     nogood
+}
+
+/// Whether the step is the one that is written.
+fn is_written(step: &Step, written: &Written) -> bool {
+    let (by, pairs, references) = *written;
+    let same_basis = match (step, by) {
+        (Step::ByConstraint { c, .. }, By::Constraint(number)) => *c == number,
+        (Step::ByVariable { v, .. }, By::Variable(number)) => *v == number,
+        _ => false,
+    };
+    same_basis && step.references() == references && has_pairs(step.nogood(), pairs)
+}
+
+/// Whether the nogood has these pairs in their order.
+fn has_pairs(nogood: &Nogood, pairs: &[(u32, u8)]) -> bool {
+    if nogood.len() as usize != pairs.len() {
+        return false;
+    }
+    for (i, pair) in pairs.iter().enumerate() {
+        if nogood.pair(i as u32) != *pair {
+            return false;
+        }
+    }
+    true
 }

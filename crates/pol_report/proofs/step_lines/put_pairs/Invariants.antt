@@ -1,0 +1,8 @@
+use Rattle.std.proofs.Common.{◌≡◌, ◌++◌, take}
+use Rattle.pol_text.specs.Texts.{joined, spaced_texts}
+use Rattle.pol_report.specs.Texts.{pair_tokens}
+use Rattle.pol_report.proofs.step_lines.put_pairs.Given as goal
+
+-- the pairs so far stand behind what was there
+abbrev pub invariant-loop-i : goal.invariant-loop-i
+invariant-loop-i l = l.out ≡ l.initial.out ++ joined (λ p. spaced_texts (pair_tokens p)) (take l.i l.nogood)

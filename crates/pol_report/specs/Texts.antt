@@ -1,0 +1,68 @@
+-- The texts of the items of a report: lines of tokens with one space between them.
+use Rattle.std.specs.Prelude.{ℕ, List, [], ◌∷◌, ◌++◌, length, map, flat_map, codes, decimal}
+use Rattle.pol_base.specs.declared.class_name.ClassName.{ClassName}
+use Rattle.pol_base.specs.declared.class_name.ClassName.TheVariants.{Nu4}
+use Rattle.pol_base.specs.Names.{class_word}
+use Rattle.pol_text.specs.Texts.{joined, printed_line}
+use Rattle.pol_nogood.specs.Nogoods.{Pair}
+use Rattle.pol_nogood.specs.Logs.{Basis, StepView}
+use Rattle.pol_report.specs.declared.item.Item.{Item}
+use Rattle.pol_report.specs.declared.item.Item.TheVariants as item
+
+-- the line before the items
+abbrev pub head_line : List ℕ
+head_line = printed_line (codes "polyanna-report" ∷ codes "1" ∷ [])
+
+-- the line behind them
+abbrev pub last_line : List ℕ
+last_line = printed_line (codes "end" ∷ [])
+
+-- a line of a class: the cells of its table, `none` or `beyond`
+abbrev pub class_line : ClassName → List (List ℕ) → List ℕ
+class_line class tokens = printed_line (codes "class" ∷ class_word class ∷ tokens)
+
+-- a line of an instance
+abbrev pub instance_line : List ℕ → List (List ℕ) → List ℕ
+instance_line name tokens = printed_line (codes "instance" ∷ name ∷ tokens)
+
+-- what a step rests on: `c` and a constraint, or `v` and a variable
+abbrev pub basis_tokens : Basis → List (List ℕ)
+basis_tokens (Basis.ByConstraint c) = codes "c" ∷ decimal c ∷ []
+basis_tokens (Basis.ByVariable v) = codes "v" ∷ decimal v ∷ []
+
+-- the variable and the value of a pair
+abbrev pub pair_tokens : Pair → List (List ℕ)
+pair_tokens p = decimal p.variable ∷ decimal p.value ∷ []
+
+-- the pairs of a nogood behind their number
+abbrev pub nogood_tokens : List Pair → List (List ℕ)
+nogood_tokens nogood = decimal (length nogood) ∷ flat_map pair_tokens nogood
+
+-- the references of a step behind their number
+abbrev pub reference_tokens : List ℕ → List (List ℕ)
+reference_tokens references = decimal (length references) ∷ map decimal references
+
+-- what the step rests on, its pairs and its references
+abbrev pub step_line : StepView → List ℕ
+step_line s = printed_line (basis_tokens s.basis ++ nogood_tokens s.nogood ++ reference_tokens s.references)
+
+-- the line of a solution
+abbrev pub yes_line : List ℕ → ClassName → List ℕ → List ℕ
+yes_line name class values = instance_line name (codes "yes" ∷ class_word class ∷ map decimal values)
+
+-- the line of a No, with the number of the steps of its log
+abbrev pub no_line : List ℕ → ClassName → ℕ → List ℕ
+no_line name class steps = instance_line name (codes "no" ∷ class_word class ∷ decimal steps ∷ [])
+
+-- the line of an instance that is not answered
+abbrev pub undecided_line : List ℕ → List ℕ
+undecided_line name = instance_line name (codes "undecided" ∷ [])
+
+-- the lines of the item: of a No its own line, and behind it the steps of its log
+abbrev pub item_text : Item → List ℕ
+item_text (item.ClassTable class cells) = class_line class (map decimal cells)
+item_text (item.ClassNone class) = class_line class (codes "none" ∷ [])
+item_text item.ClassBeyond = class_line Nu4 (codes "beyond" ∷ [])
+item_text (item.Yes name class values) = yes_line name class values
+item_text (item.NoLog name class log) = no_line name class (length log) ++ joined step_line log
+item_text (item.Undecided name) = undecided_line name

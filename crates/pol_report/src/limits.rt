@@ -1,0 +1,114 @@
+ghost use Rattle.std.specs.Prelude.{◌↔◌, IsTrue};
+ghost use Rattle.pol_nogood.specs.Steps.{step_named};
+ghost use Rattle.pol_report.specs.Printable.{AreValues, IsShort, HasPlainYes, HasLogs, ArePrintablePairs, ArePrintableReferences, IsPrintableStep, IsPrintableLog, IsPrintable};
+
+use crate::Item;
+use pol_base::ClassName;
+use pol_nogood::{Log, Nogood, Step};
+use pol_text::is_name;
+
+const MOST_CELLS: usize = 625;
+
+const MOST_VARIABLES: usize = 40;
+
+const MOST_STEPS: u32 = 10_037_608;
+
+const MOST_REFERENCES: usize = 128;
+
+const LARGEST_VALUE: u8 = 4;
+
+const LARGEST_NUMBER: u32 = 999_999_999;
+
+/// Whether the item is one that a report may have: its name is a name, its class is one that its form
+/// allows, and its values, steps, references and numbers are within the bounds of the format. Takes no
+/// memory.
+pub fn printable(item: &Item) -> bool
+    ensures printable { IsTrue result ↔ IsPrintable item.now }
+{
+    match item {
+        Item::ClassTable { cells, .. } => are_values(cells.as_slice(), MOST_CELLS),
+        Item::ClassNone { .. } | Item::ClassBeyond => true,
+        Item::Yes { name, kind, values } => {
+            is_name(name.as_slice())
+                && has_plain_yes(*kind)
+                && are_values(values.as_slice(), MOST_VARIABLES)
+        }
+        Item::NoLog { name, kind, log } => {
+            is_name(name.as_slice()) && has_logs(*kind) && is_printable_log(log)
+        }
+        Item::Undecided { name } => is_name(name.as_slice()),
+    }
+}
+
+/// Whether there is a value, there are at most so many, and each is one of some domain.
+fn are_values(values: &[u8], most: usize) -> bool
+    ensures values { IsTrue result ↔ AreValues most values.now }
+{
+    !values.is_empty()
+        && values.len() <= most
+        && values.iter().all(|value| *value <= LARGEST_VALUE)
+}
+
+/// Whether the number has at most nine digits.
+fn is_short(number: u32) -> bool
+    ensures short { IsTrue result ↔ IsShort number }
+{
+    number <= LARGEST_NUMBER
+}
+
+/// Whether a Yes of the class is its values alone.
+fn has_plain_yes(class: ClassName) -> bool
+    ensures plain { IsTrue result ↔ HasPlainYes class }
+{
+    class != ClassName::Maltsev
+}
+
+/// Whether a No of the class is a log.
+fn has_logs(class: ClassName) -> bool
+    ensures logs { IsTrue result ↔ HasLogs class }
+{
+    class != ClassName::Affine && class != ClassName::Maltsev
+}
+
+fn is_printable_log(log: &Log) -> bool
+    ensures printable { IsTrue result ↔ IsPrintableLog log.now }
+{
+    if log.len() > MOST_STEPS {
+        return false;
+    }
+    for s in 0..log.len() {
+        if !is_printable_step(log.step(s)) {
+            return false;
+        }
+    }
+    true
+}
+
+fn is_printable_step(step: &Step) -> bool
+    ensures printable { IsTrue result ↔ IsPrintableStep (step_named step.now) }
+{
+    let number = match step {
+        Step::ByConstraint { c, .. } => *c,
+        Step::ByVariable { v, .. } => *v,
+    };
+    is_short(number) && are_printable_pairs(step.nogood()) && are_printable_references(step.references())
+}
+
+fn are_printable_pairs(nogood: &Nogood) -> bool
+    ensures printable { IsTrue result ↔ ArePrintablePairs nogood.now }
+{
+    for i in 0..nogood.len() {
+        let (variable, value) = nogood.pair(i);
+        if !is_short(variable) || value > LARGEST_VALUE {
+            return false;
+        }
+    }
+    true
+}
+
+/// Whether the numbers are not more than a step may refer to, and have at most nine digits.
+fn are_printable_references(references: &[u32]) -> bool
+    ensures printable { IsTrue result ↔ ArePrintableReferences references.now }
+{
+    references.len() <= MOST_REFERENCES && references.iter().all(|reference| is_short(*reference))
+}

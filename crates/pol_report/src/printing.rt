@@ -1,0 +1,136 @@
+ghost use Rattle.std.specs.Prelude.{◌≡◌, ◌++◌, [], ◌∷◌, length, map, codes, decimal};
+ghost use Rattle.pol_base.specs.Names.{class_word};
+ghost use Rattle.pol_text.specs.Texts.{Puts, joined, spaced_texts};
+ghost use Rattle.pol_report.specs.Texts.{head_line, last_line, class_line, yes_line, no_line, undecided_line, step_line, item_text};
+ghost use Rattle.pol_report.specs.Printable.{IsPrintable};
+
+use crate::Item;
+use crate::step_lines::put_steps;
+use pol_base::{ClassName, NoMemory, Values};
+use pol_nogood::Log;
+use pol_text::{put_spaced, put_token, put_values};
+
+/// Appends the line before the items. Where memory runs out, a front of it is appended.
+pub fn put_head(out: &mut Values) -> Result<(), NoMemory>
+    ensures puts { Puts result out.old out.new head_line }
+{
+    out.append(b"polyanna-report 1\n")
+}
+
+/// Appends the lines of the item. Where memory runs out, a front of them is appended.
+pub fn put_item(out: &mut Values, item: &Item) -> Result<(), NoMemory>
+    requires printable { IsPrintable item.now }
+    ensures puts { Puts result out.old out.new (item_text item.now) }
+{
+    match item {
+        Item::ClassTable { kind, cells } => put_cells(out, *kind, cells.as_slice()),
+        Item::ClassNone { kind } => put_word(out, *kind, b"none"),
+        Item::ClassBeyond => put_word(out, ClassName::Nu4, b"beyond"),
+        Item::Yes { name, kind, values } => {
+            put_yes(out, name.as_slice(), *kind, values.as_slice())
+        }
+        Item::NoLog { name, kind, log } => put_no(out, name.as_slice(), *kind, log),
+        Item::Undecided { name } => put_undecided(out, name.as_slice()),
+    }
+}
+
+/// Appends the line behind the items. Where memory runs out, a front of it is appended.
+pub fn put_last(out: &mut Values) -> Result<(), NoMemory>
+    ensures puts { Puts result out.old out.new last_line }
+{
+    out.append(b"end\n")
+}
+
+/// Appends the line of a class with the cells of its table.
+fn put_cells(out: &mut Values, class: ClassName, cells: &[u8]) -> Result<(), NoMemory>
+    ensures puts { Puts result out.old out.new (class_line class (map decimal cells.now)) }
+{
+    put_class(out, class)?;
+    put_values(out, cells)?;
+    out.append(b"\n")
+}
+
+/// Appends the line of a class with a word in place of a table.
+fn put_word(out: &mut Values, class: ClassName, word: &[u8]) -> Result<(), NoMemory>
+    ensures puts { Puts result out.old out.new (class_line class (word.now ∷ [])) }
+{
+    put_class(out, class)?;
+    put_token(out, word)?;
+    out.append(b"\n")
+}
+
+/// Appends `class` and the word of the class.
+fn put_class(out: &mut Values, class: ClassName) -> Result<(), NoMemory>
+    ensures puts { Puts result out.old out.new (codes "class" ++ spaced_texts (class_word class ∷ [])) }
+{
+    out.append(b"class")?;
+    put_token(out, class.word())
+}
+
+/// Appends the line of an instance that is not answered.
+fn put_undecided(out: &mut Values, name: &[u8]) -> Result<(), NoMemory>
+    ensures puts { Puts result out.old out.new (undecided_line name.now) }
+{
+    put_begun(out, name, b"undecided")?;
+    out.append(b"\n")
+}
+
+/// Appends `instance`, the name, and what the item is.
+fn put_begun(out: &mut Values, name: &[u8], word: &[u8]) -> Result<(), NoMemory>
+    ensures puts { Puts result out.old out.new (codes "instance" ++ spaced_texts (name.now ∷ word.now ∷ [])) }
+{
+    out.append(b"instance")?;
+    put_token(out, name)?;
+    put_token(out, word)
+}
+
+/// Appends `instance`, the name, the answer, and the class that gives it.
+fn put_answered(
+    out: &mut Values,
+    name: &[u8],
+    answer: &[u8],
+    class: ClassName,
+) -> Result<(), NoMemory>
+    ensures puts { Puts result out.old out.new
+        (codes "instance" ++ spaced_texts (name.now ∷ answer.now ∷ class_word class ∷ [])) }
+{
+    put_begun(out, name, answer)?;
+    put_token(out, class.word())
+}
+
+/// Appends the line of a solution.
+fn put_yes(
+    out: &mut Values,
+    name: &[u8],
+    class: ClassName,
+    values: &[u8],
+) -> Result<(), NoMemory>
+    ensures puts { Puts result out.old out.new (yes_line name.now class values.now) }
+{
+    put_answered(out, name, b"yes", class)?;
+    put_values(out, values)?;
+    out.append(b"\n")
+}
+
+/// Appends the line of a No, and the steps of the log behind it.
+fn put_no(
+    out: &mut Values,
+    name: &[u8],
+    class: ClassName,
+    log: &Log,
+) -> Result<(), NoMemory>
+    ensures puts { Puts result out.old out.new 
+        (no_line name.now class (length log.now) ++ joined step_line log.now) }
+{
+    put_no_line(out, name, class, log.len())?;
+    put_steps(out, log)
+}
+
+/// Appends the line of a No, with the number of the steps of its log.
+fn put_no_line(out: &mut Values, name: &[u8], class: ClassName, steps: u32) -> Result<(), NoMemory>
+    ensures puts { Puts result out.old out.new (no_line name.now class steps) }
+{
+    put_answered(out, name, b"no", class)?;
+    put_spaced(out, u64::from(steps))?;
+    out.append(b"\n")
+}
