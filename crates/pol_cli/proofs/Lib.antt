@@ -1,9 +1,8 @@
-pub mod PrintLemmas
 pub mod WordLemmas
 pub mod DueLemmas
 pub mod RunLemmas
-pub mod ConstantSolutions
 pub mod ReportLemmas
 pub mod ReportLaws
 pub mod DueLaws
 pub mod StatusLaws
+pub mod PrintableItems

@@ -1,5 +1,5 @@
 -- What a reader of a report may rely on.
-use Rattle.std.proofs.Common.{◌≡◌, ℕ, ◌+◌, ◌<◌, ◌≤◌, ◌⊎◌, inl, inr, List, ◌++◌, length, map, get_or, slice_get, Some, None, sym, ap, ◌∙◌, subst, arith, length-append}
+use Rattle.std.proofs.Common.{◌≡◌, ℕ, ◌+◌, ◌<◌, ◌≤◌, ◌⊎◌, inl, inr, List, ◌++◌, length, map, get_or, slice_get, Option, Some, None, sym, ap, ◌∙◌, subst, arith, length-append}
 use Rattle.std.specs.Prelude.{IsSomeAnd, MatchOption}
 use Rattle.std.specs.List.{AllZip}
 use Rattle.std.proofs.lemmas.List.{length-map, get_or_append_left, get_or-append-add, get_or-map}
@@ -11,13 +11,17 @@ use Rattle.pol_relation.specs.Relations.{LanguageView}
 use Rattle.pol_relation.specs.Instances.{InstanceView, IsSolution, HasNoSolution}
 use Rattle.pol_nogood.specs.Logs.{StepView}
 use Rattle.pol_nogood.specs.Answers.{IsCertificate}
-use Rattle.pol_optable.specs.ClassLines.{Line, ClassLine, Serves, all_classes}
-use Rattle.pol_optable.specs.ClassLines.Line.{Sought}
-use Rattle.pol_optable.proofs.LineLemmas.{one_line, one_choice, none_first, not_serving}
+use Rattle.pol_nogood.specs.Trims.{AreReferredTo}
+use Rattle.pol_optable.specs.ClassLines.{Line, ClassLine, Chooses, all_classes}
+use Rattle.pol_optable.proofs.LineLemmas.{one_line, one_choice}
+use Rattle.pol_solve.specs.declared.answering.InstanceAnswer.{InstanceAnswer}
+use Rattle.pol_solve.specs.declared.answering.InstanceAnswer.TheVariants as answer
+use Rattle.pol_solve.specs.Answers.{most_pairs, HasNoSolver, IsLogAnswer, AnswersByLog, AnswersBy}
+use Rattle.pol_report.specs.declared.item.Item.{Item}
+use Rattle.pol_report.specs.declared.item.Item.TheVariants as item
+use Rattle.pol_report.specs.Texts.{last_line}
 use Rattle.pol_lang.specs.Files.{FileView, no_instance, instance_of}
-use Rattle.pol_cli.specs.Items.{last_line, class_line, undecided_item, yes_item, no_item}
-use Rattle.pol_cli.specs.Reports.{Subject, subjects, IsItem, IsClassItem, IsInstanceItem, IsLogItem, Owes, IsReport, IsBegunReport}
-use Rattle.pol_cli.proofs.ReportLemmas.{constant_chosen}
+use Rattle.pol_cli.specs.Reports.{Subject, subjects, IsItem, class_item, answer_item, IsClassItem, IsInstanceItem, IsReport, IsBegunReport}
 use Rattle.pol_cli.specs.Laws.{class_at, IsWhole, IsBegunWhole}
 
 -- what is right of the subject at a place stands there
@@ -74,69 +78,78 @@ begun_whole file text begun =
           subst (λ subject. IsSomeAnd (slice_get has.items (length all_classes + i)) (IsItem file.language subject)) (same (length all_classes + i) stands ∙ subject_of_instance file i d inside) (at_place (IsItem file.language) begun.first has.items (length all_classes + i) d has.right stands);
     }
 
--- where the line of the class `constant` holds a table, its solver answers
-served_answered :
-    (lang : LanguageView) (inst : InstanceView) (text cells : List ℕ)
-    → ClassLine Constant lang (Sought (Some cells))
-    → IsInstanceItem lang inst text
-    → IsLogItem 1 Constant lang inst text
-served_answered lang inst text cells line (IsInstanceItem.unserved none is) =
-    absurd (none_first (Serves lang) all_classes Constant none (constant_chosen lang cells line))
-served_answered lang inst text cells line (IsInstanceItem.served class chosen owes) =
-    let same = one_choice lang (Some class) (Some Constant) chosen (constant_chosen lang cells line) in
-    let is : class ≡ Constant = cc in
-    subst (λ some. Owes some lang inst text) is owes
+pub class_lines_told : (lang : LanguageView) (class : ClassName) (line : Line) (told : Item) → ClassLine class lang line → IsClassItem lang class told → told ≡ class_item class line
+class_lines_told lang class line told is item = item.item_is ∙ ap (λ some. class_item class some) (one_line class lang item.line line item.is_line is)
 
--- a class that serves, and is not `constant`, leaves an instance undecided
-other_undecided :
-    (class : ClassName) (lang : LanguageView) (inst : InstanceView) (text : List ℕ)
-    → ¬ Serves lang Constant
-    → Serves lang class
-    → Owes class lang inst text
-    → text ≡ undecided_item inst.name
-other_undecided Constant lang inst text none serves owes = absurd (none serves)
-other_undecided Semilattice lang inst text none serves owes = owes
-other_undecided SetFunction lang inst text none serves owes = owes
-other_undecided Majority lang inst text none serves owes = owes
-other_undecided Nu4 lang inst text none serves owes = owes
-other_undecided Affine lang inst text none serves owes = owes
-other_undecided Maltsev lang inst text none serves owes = owes
+-- what the chosen class owes
+owed_by :
+    (lang : LanguageView) (inst : InstanceView) (chosen : Option ClassName) (told : Item)
+    → Chooses lang chosen
+    → (item : IsInstanceItem lang inst told)
+    → AnswersBy chosen lang inst item.given × (told ≡ answer_item inst.name chosen item.given)
+owed_by lang inst chosen told chooses item =
+    let same = one_choice lang item.chosen chosen item.chooses chooses in
+    (
+      subst (λ some. AnswersBy some lang inst item.given) same item.owed,
+      item.item_is ∙ ap (λ some. answer_item inst.name some item.given) same,
+    )
 
--- where the line of the class `constant` holds none, an instance is undecided
-pub unserved_undecided :
-    (lang : LanguageView) (inst : InstanceView) (text : List ℕ)
-    → ClassLine Constant lang (Sought None)
-    → IsInstanceItem lang inst text
-    → text ≡ undecided_item inst.name
-unserved_undecided lang inst text line (IsInstanceItem.unserved none is) = is
-unserved_undecided lang inst text line (IsInstanceItem.served class chosen owes) =
-    let not = not_serving Constant lang (Sought None) line (λ holds. holds) in
-    other_undecided class lang inst text not chosen.holds owes
+-- and by its solver
+owed_by_log :
+    (lang : LanguageView) (inst : InstanceView) (class : ClassName) (most : ℕ) (told : Item)
+    → Chooses lang (Some class)
+    → most_pairs class ≡ Some most
+    → (item : IsInstanceItem lang inst told)
+    → IsLogAnswer most lang inst item.given × (told ≡ answer_item inst.name (Some class) item.given)
+owed_by_log lang inst class most told chooses solver item =
+    let owed = owed_by lang inst (Some class) told chooses item in
+    (subst (λ some. AnswersByLog some lang inst item.given) solver owed.0, owed.1)
 
-pub class_lines_told : (lang : LanguageView) (class : ClassName) (line : Line) (text : List ℕ) → ClassLine class lang line → IsClassItem lang class text → text ≡ class_line class line
-class_lines_told lang class line text is item = item.text_is ∙ ap (λ some. class_line class some) (one_line class lang item.line line item.is_line is)
+-- an instance that has a solution gets one
+solved :
+    (lang : LanguageView) (inst : InstanceView) (class : ClassName) (most : ℕ) (told : Item) (some : List ℕ) (given : InstanceAnswer)
+    → IsSolution lang inst some
+    → IsLogAnswer most lang inst given
+    → told ≡ answer_item inst.name (Some class) given
+    → (values : List ℕ) × IsSolution lang inst values × (told ≡ item.Yes inst.name class values)
+solved lang inst class most told some (answer.Yes values) solution owed same = (values, owed, same)
+solved lang inst class most told some (answer.NoLog log) solution owed same = absurd (owed.0 some solution)
+solved lang inst class most told some answer.Undecided solution owed same = absurd owed
 
--- a log's class answers an instance that has a solution with one
-solved_by_log : (most : ℕ) (class : ClassName) (lang : LanguageView) (inst : InstanceView) (text some : List ℕ) → IsSolution lang inst some → IsLogItem most class lang inst text → (values : List ℕ) × IsSolution lang inst values × (text ≡ yes_item inst.name class values)
-solved_by_log most class lang inst text some solution (IsLogItem.yes values is same) = (values, is, same)
-solved_by_log most class lang inst text some solution (IsLogItem.no log none certificate same) = absurd (none some solution)
+pub solvable_solved : (lang : LanguageView) (inst : InstanceView) (class : ClassName) (most : ℕ) (told : Item) (some : List ℕ) → Chooses lang (Some class) → most_pairs class ≡ Some most → IsSolution lang inst some → IsInstanceItem lang inst told → (values : List ℕ) × IsSolution lang inst values × (told ≡ item.Yes inst.name class values)
+solvable_solved lang inst class most told some chooses solver solution is =
+    let owed = owed_by_log lang inst class most told chooses solver is in
+    solved lang inst class most told some is.given solution owed.0 owed.1
 
--- and one that has none with a certificate
-refuted_by_log : (most : ℕ) (class : ClassName) (lang : LanguageView) (inst : InstanceView) (text : List ℕ) → HasNoSolution lang inst → IsLogItem most class lang inst text → (log : List StepView) × IsCertificate most lang inst log × (text ≡ no_item inst.name class log)
-refuted_by_log most class lang inst text none (IsLogItem.yes values is same) = absurd (none values is)
-refuted_by_log most class lang inst text none (IsLogItem.no log none' certificate same) = (log, certificate, same)
+-- and one that has none a log
+refuted :
+    (lang : LanguageView) (inst : InstanceView) (class : ClassName) (most : ℕ) (told : Item) (given : InstanceAnswer)
+    → HasNoSolution lang inst
+    → IsLogAnswer most lang inst given
+    → told ≡ answer_item inst.name (Some class) given
+    → (log : List StepView) × IsCertificate most lang inst log × AreReferredTo log × (told ≡ item.NoLog inst.name class log)
+refuted lang inst class most told (answer.Yes values) none owed same = absurd (none values owed)
+refuted lang inst class most told (answer.NoLog log) none owed same = (log, owed.1, owed.2, same)
+refuted lang inst class most told answer.Undecided none owed same = absurd owed
 
-pub solvable_solved : (lang : LanguageView) (inst : InstanceView) (text cells some : List ℕ) → ClassLine Constant lang (Sought (Some cells)) → IsSolution lang inst some → IsInstanceItem lang inst text → (values : List ℕ) × IsSolution lang inst values × (text ≡ yes_item inst.name Constant values)
-solvable_solved lang inst text cells some line solution item = solved_by_log 1 Constant lang inst text some solution (served_answered lang inst text cells line item)
+pub others_refuted : (lang : LanguageView) (inst : InstanceView) (class : ClassName) (most : ℕ) (told : Item) → Chooses lang (Some class) → most_pairs class ≡ Some most → HasNoSolution lang inst → IsInstanceItem lang inst told → (log : List StepView) × IsCertificate most lang inst log × AreReferredTo log × (told ≡ item.NoLog inst.name class log)
+others_refuted lang inst class most told chooses solver none is =
+    let owed = owed_by_log lang inst class most told chooses solver is in
+    refuted lang inst class most told is.given none owed.0 owed.1
 
-pub others_refuted : (lang : LanguageView) (inst : InstanceView) (text cells : List ℕ) → ClassLine Constant lang (Sought (Some cells)) → HasNoSolution lang inst → IsInstanceItem lang inst text → (log : List StepView) × IsCertificate 1 lang inst log × (text ≡ no_item inst.name Constant log)
-others_refuted lang inst text cells line none item = refuted_by_log 1 Constant lang inst text none (served_answered lang inst text cells line item)
+-- without a solver nothing is decided
+undecided :
+    (lang : LanguageView) (inst : InstanceView) (chosen : Option ClassName) (told : Item) (given : InstanceAnswer)
+    → HasNoSolver chosen
+    → AnswersBy chosen lang inst given
+    → told ≡ answer_item inst.name chosen given
+    → told ≡ item.Undecided inst.name
+undecided lang inst None told given none owed same = same
+undecided lang inst (Some class) told given none owed same =
+    let nothing = subst (λ some. AnswersByLog some lang inst given) none owed in
+    same ∙ ap (λ some. answer_item inst.name (Some class) some) nothing
 
-pub owed_items : (class : ClassName) (lang : LanguageView) (inst : InstanceView) (text : List ℕ) → Owes class lang inst text → (text ≡ undecided_item inst.name) ⊎ ((most : ℕ) × IsLogItem most class lang inst text)
-owed_items Constant lang inst text owes = inr (1, owes)
-owed_items Semilattice lang inst text owes = inl owes
-owed_items SetFunction lang inst text owes = inl owes
-owed_items Majority lang inst text owes = inl owes
-owed_items Nu4 lang inst text owes = inl owes
-owed_items Affine lang inst text owes = inl owes
-owed_items Maltsev lang inst text owes = inl owes
+pub others_undecided : (lang : LanguageView) (inst : InstanceView) (chosen : Option ClassName) (told : Item) → Chooses lang chosen → HasNoSolver chosen → IsInstanceItem lang inst told → told ≡ item.Undecided inst.name
+others_undecided lang inst chosen told chooses none is =
+    let owed = owed_by lang inst chosen told chooses is in
+    undecided lang inst chosen told is.given none owed.0 owed.1

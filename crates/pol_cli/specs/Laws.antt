@@ -10,20 +10,24 @@ use Rattle.pol_relation.specs.Relations.{LanguageView}
 use Rattle.pol_relation.specs.Instances.{InstanceView, IsSolution, HasNoSolution}
 use Rattle.pol_nogood.specs.Logs.{StepView}
 use Rattle.pol_nogood.specs.Answers.{IsCertificate}
-use Rattle.pol_optable.specs.ClassLines.{Line, ClassLine, all_classes}
-use Rattle.pol_optable.specs.ClassLines.Line.{Sought}
+use Rattle.pol_nogood.specs.Trims.{AreReferredTo}
+use Rattle.pol_optable.specs.ClassLines.{Line, ClassLine, Chooses, all_classes}
+use Rattle.pol_solve.specs.Answers.{most_pairs, HasNoSolver}
+use Rattle.pol_report.specs.declared.item.Item.{Item}
+use Rattle.pol_report.specs.declared.item.Item.TheVariants as item
+use Rattle.pol_report.specs.Texts.{head_line, last_line, item_text}
+use Rattle.pol_report.specs.Printable.{IsPrintable}
 use Rattle.pol_lang.specs.Limits.{most_bytes}
-use Rattle.pol_lang.specs.Files.{FileView, Parsed, instance_of}
+use Rattle.pol_lang.specs.Files.{FileView, IsFileLanguage, IsFileInstance, Parsed, instance_of}
 use Rattle.pol_lang.specs.Grammar.{parse}
-use Rattle.pol_cli.specs.Items.{head_line, last_line, class_line, undecided_item, yes_item, no_item}
-use Rattle.pol_cli.specs.Reports.{IsClassItem, IsInstanceItem, IsLogItem, Owes, IsReport, IsBegunReport}
+use Rattle.pol_cli.specs.Reports.{class_item, IsClassItem, IsInstanceItem, IsReport, IsBegunReport}
 use Rattle.pol_cli.specs.Due.{IsDue, IsAlone, AreKnown, report_words, usage_line}
 use Rattle.pol_cli.specs.Runs.{IsAnswer, WritesDue, WritesFront, HasRead, status_of, unflushed}
 use Rattle.pol_cli.specs.declared.ended.Ended.{Ended}
 use Rattle.pol_cli.specs.declared.ended.Ended.TheVariants as ended
 
--- the text stands at the place of the list
-abbrev pub StandsAt : List (List ℕ) → ℕ → (List ℕ → Type 0) → Type 0
+-- the item stands at the place of the list
+abbrev pub StandsAt : List Item → ℕ → (Item → Type 0) → Type 0
 StandsAt items place P = IsSomeAnd (slice_get items place) P
 
 -- the class whose line stands at the place
@@ -32,8 +36,8 @@ class_at place = slice_index_or all_classes place Constant
 
 -- a report is a head line, the line of each class, an item of each instance, each at its place, and a last line
 pub record IsWhole (file : FileView) (text : List ℕ) : Type 0 where
-  pub items : List (List ℕ)
-  pub text_is : text ≡ head_line ++ joined (λ item. item) items ++ last_line
+  pub items : List Item
+  pub text_is : text ≡ head_line ++ joined item_text items ++ last_line
   pub count : length items ≡ length all_classes + length file.instances
   pub classes : (k : ℕ) → k < length all_classes → StandsAt items k (IsClassItem file.language (class_at k))
   pub instances : (i : ℕ) → i < length file.instances
@@ -46,48 +50,62 @@ ReportsAreWhole = (file : FileView) (text : List ℕ) → IsReport file text →
 -- the item of a class tells its line
 abbrev pub ClassLinesAreTold : Type 0
 ClassLinesAreTold =
-    (lang : LanguageView) (class : ClassName) (line : Line) (text : List ℕ)
+    (lang : LanguageView) (class : ClassName) (line : Line) (told : Item)
     → ClassLine class lang line
-    → IsClassItem lang class text
-    → text ≡ class_line class line
+    → IsClassItem lang class told
+    → told ≡ class_item class line
 
--- where the line of the class `constant` holds a table, an instance that has a solution gets one
+-- where the chosen class has a solver, an instance that has a solution gets one
 abbrev pub SolvableAreSolved : Type 0
 SolvableAreSolved =
-    (lang : LanguageView) (inst : InstanceView) (text cells some : List ℕ)
-    → ClassLine Constant lang (Sought (Some cells))
+    (lang : LanguageView) (inst : InstanceView) (class : ClassName) (most : ℕ) (told : Item) (some : List ℕ)
+    → Chooses lang (Some class)
+    → most_pairs class ≡ Some most
     → IsSolution lang inst some
-    → IsInstanceItem lang inst text
-    → (values : List ℕ) × IsSolution lang inst values × (text ≡ yes_item inst.name Constant values)
+    → IsInstanceItem lang inst told
+    → (values : List ℕ) × IsSolution lang inst values × (told ≡ item.Yes inst.name class values)
 
--- and an instance that has none gets a No with its certificate
+-- and an instance that has none gets a No with its certificate, of which each step but the last is referred to
 abbrev pub OthersAreRefuted : Type 0
 OthersAreRefuted =
-    (lang : LanguageView) (inst : InstanceView) (text cells : List ℕ)
-    → ClassLine Constant lang (Sought (Some cells))
+    (lang : LanguageView) (inst : InstanceView) (class : ClassName) (most : ℕ) (told : Item)
+    → Chooses lang (Some class)
+    → most_pairs class ≡ Some most
     → HasNoSolution lang inst
-    → IsInstanceItem lang inst text
-    → (log : List StepView) × IsCertificate 1 lang inst log × (text ≡ no_item inst.name Constant log)
+    → IsInstanceItem lang inst told
+    → (log : List StepView) × IsCertificate most lang inst log × AreReferredTo log
+        × (told ≡ item.NoLog inst.name class log)
 
--- where it holds none, an instance is undecided
-abbrev pub UnservedAreUndecided : Type 0
-UnservedAreUndecided =
-    (lang : LanguageView) (inst : InstanceView) (text : List ℕ)
-    → ClassLine Constant lang (Sought None)
-    → IsInstanceItem lang inst text
-    → text ≡ undecided_item inst.name
+-- where the chosen class has none, or no class is chosen, an instance is undecided
+abbrev pub OthersAreUndecided : Type 0
+OthersAreUndecided =
+    (lang : LanguageView) (inst : InstanceView) (chosen : Option ClassName) (told : Item)
+    → Chooses lang chosen
+    → HasNoSolver chosen
+    → IsInstanceItem lang inst told
+    → told ≡ item.Undecided inst.name
 
--- whatever a class owes an instance is its answer, or says that nothing is decided
-abbrev pub OwedAreItems : Type 0
-OwedAreItems =
-    (class : ClassName) (lang : LanguageView) (inst : InstanceView) (text : List ℕ)
-    → Owes class lang inst text
-    → (text ≡ undecided_item inst.name) ⊎ ((most : ℕ) × IsLogItem most class lang inst text)
+-- each item of a class of a file's language can be printed
+abbrev pub ClassItemsArePrintable : Type 0
+ClassItemsArePrintable =
+    (lang : LanguageView) (class : ClassName) (told : Item)
+    → IsFileLanguage lang
+    → IsClassItem lang class told
+    → IsPrintable told
+
+-- and so can each item of one of its instances
+abbrev pub InstanceItemsArePrintable : Type 0
+InstanceItemsArePrintable =
+    (lang : LanguageView) (inst : InstanceView) (told : Item)
+    → IsFileLanguage lang
+    → IsFileInstance lang inst
+    → IsInstanceItem lang inst told
+    → IsPrintable told
 
 -- a begun report is a head line and some first items, each right at its place
 pub record IsBegunWhole (file : FileView) (text : List ℕ) : Type 0 where
-  pub items : List (List ℕ)
-  pub text_is : text ≡ head_line ++ joined (λ item. item) items
+  pub items : List Item
+  pub text_is : text ≡ head_line ++ joined item_text items
   pub few : length items ≤ length all_classes + length file.instances
   pub classes : (k : ℕ) → k < length all_classes → k < length items
       → StandsAt items k (IsClassItem file.language (class_at k))

@@ -1,5 +1,5 @@
 ghost use Rattle.pol_cli.specs.Laws.{ReportsAreWhole, BegunReportsAreWhole, ClassLinesAreTold};
-ghost use Rattle.pol_cli.specs.Laws.{SolvableAreSolved, OthersAreRefuted, UnservedAreUndecided, OwedAreItems};
+ghost use Rattle.pol_cli.specs.Laws.{SolvableAreSolved, OthersAreRefuted, OthersAreUndecided, ClassItemsArePrintable, InstanceItemsArePrintable};
 ghost use Rattle.pol_cli.specs.Laws.{DueIsDecided, FilesAreReported, OthersAreRefused, FrontsOfUsage, FrontsOfReports};
 ghost use Rattle.pol_cli.specs.Laws.{InputsAreRead, FaultsReadFew, ReadFaultsReadFewer, StatusTells, ZeroIsDone, UnflushedIsCutOff};
 
@@ -10,8 +10,9 @@ pub fn report_laws()
     ensures classes { ClassLinesAreTold }
     ensures solved { SolvableAreSolved }
     ensures refuted { OthersAreRefuted }
-    ensures undecided { UnservedAreUndecided }
-    ensures owed { OwedAreItems }
+    ensures undecided { OthersAreUndecided }
+    ensures printable_classes { ClassItemsArePrintable }
+    ensures printable_instances { InstanceItemsArePrintable }
 {}
 
 /// What a reader of what a run read and wrote, and of its status, may rely on.

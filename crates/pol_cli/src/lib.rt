@@ -3,10 +3,8 @@
 #![tactic(auto)]
 
 mod ended;
-mod items;
 mod laws;
 mod report;
-mod solving;
 mod top;
 
 pub use ended::{Ended, ending_without_words};

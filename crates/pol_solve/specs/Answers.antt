@@ -1,5 +1,5 @@
 -- What each class owes an instance, and what is answered by the first class of which a table was found.
-use Rattle.std.specs.Prelude.{◌≡◌, ℕ, Option, Some, None}
+use Rattle.std.specs.Prelude.{◌≡◌, ℕ, Option, Some, None, ⊤}
 use Rattle.pol_base.specs.declared.class_name.ClassName.{ClassName}
 use Rattle.pol_base.specs.declared.class_name.ClassName.TheVariants.{Constant, Semilattice, SetFunction, Majority, Nu4, Affine, Maltsev}
 use Rattle.pol_relation.specs.Relations.{LanguageView}
@@ -20,6 +20,11 @@ most_pairs Majority = Some 2
 most_pairs Nu4 = Some 3
 most_pairs Affine = None
 most_pairs Maltsev = None
+
+-- no class is chosen, or one that has no solver
+abbrev pub HasNoSolver : Option ClassName → Type 0
+HasNoSolver None = ⊤
+HasNoSolver (Some class) = most_pairs class ≡ None
 
 -- a solution, or where there is none a log whose nogoods have at most so many pairs, and of which each step but the
 -- last is referred to

@@ -1,4 +1,5 @@
-use Rattle.pol_cli.proofs.ReportLaws.{reports_whole, begun_whole, class_lines_told, solvable_solved, others_refuted, unserved_undecided, owed_items}
+use Rattle.pol_cli.proofs.PrintableItems.{class_printable, instance_printable}
+use Rattle.pol_cli.proofs.ReportLaws.{reports_whole, begun_whole, class_lines_told, solvable_solved, others_refuted, others_undecided}
 use Rattle.pol_cli.proofs.laws.report_laws.Goals as goal
 
 pub returns-clause-whole : goal.returns-clause-whole
@@ -17,7 +18,10 @@ pub returns-clause-refuted : goal.returns-clause-refuted
 returns-clause-refuted c = others_refuted
 
 pub returns-clause-undecided : goal.returns-clause-undecided
-returns-clause-undecided c = unserved_undecided
+returns-clause-undecided c = others_undecided
 
-pub returns-clause-owed : goal.returns-clause-owed
-returns-clause-owed c = owed_items
+pub returns-clause-printable_classes : goal.returns-clause-printable_classes
+returns-clause-printable_classes c = class_printable
+
+pub returns-clause-printable_instances : goal.returns-clause-printable_instances
+returns-clause-printable_instances c = instance_printable

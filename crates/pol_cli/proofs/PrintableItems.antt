@@ -1,0 +1,197 @@
+-- The items of a report of a file can be printed: their numbers are within the bounds of the format.
+use Rattle.std.proofs.Common.{◌≡◌, ℕ, ◌+◌, ◌-◌, ◌^◌, ◌<◌, ◌≤◌, List, [], ◌∷◌, length, map, get_or, take, Option, Some, None, All, refl, sym, ap, ◌∙◌, subst, arith, suc}
+use Rattle.std.specs.Prelude.{filter}
+use Rattle.std.specs.List.{range_with_len}
+use Rattle.std.proofs.Math.Nat.{one-le-pow, pow-le-pow_left, pow-le-pow_right}
+use Rattle.std.proofs.lemmas.List.{length-map, get_or_default, length-take}
+use Rattle.std.proofs.lemmas.List.FromFn.{length-map-range_with_len}
+use Rattle.std.proofs.lemmas.List.Sums.{length-filter, count_by-le-length}
+use Rattle.pol_base.specs.declared.class_name.ClassName.{ClassName}
+use Rattle.pol_base.specs.declared.class_name.ClassName.TheVariants.{Constant, Semilattice, SetFunction, Majority, Nu4, Affine, Maltsev}
+use Rattle.pol_relation.specs.Relations.{LanguageView, IsLanguage, no_named, rows_of}
+use Rattle.pol_relation.specs.Instances.{InstanceView, IsSolution, constraint_of, no_constraint}
+use Rattle.pol_nogood.specs.Nogoods.{Pair, IsPair}
+use Rattle.pol_nogood.specs.Logs.{Basis, StepView, step_at, no_step, cases_of, reading, is_case, value_case, FitsMost}
+use Rattle.pol_nogood.specs.ValidLogs.{CanRestOn, IsValidStep}
+use Rattle.pol_nogood.specs.Answers.{IsCertificate}
+use Rattle.pol_nogood.proofs.Counting.{few_steps_of_three}
+use Rattle.pol_optable.specs.Operations.{Operation}
+use Rattle.pol_optable.specs.ClassLines.{IsTable, IsSetTable, IsTableOf, Line, ClassLine}
+use Rattle.pol_optable.specs.ClassLines.Line.{Beyond, Sought}
+use Rattle.pol_solve.specs.declared.answering.InstanceAnswer.{InstanceAnswer}
+use Rattle.pol_solve.specs.declared.answering.InstanceAnswer.TheVariants as answer
+use Rattle.pol_solve.specs.Answers.{most_pairs, IsLogAnswer, AnswersBy}
+use Rattle.pol_report.specs.declared.item.Item.{Item}
+use Rattle.pol_report.specs.Printable.{AreValues, IsShort, basis_number, IsPrintablePair, ArePrintablePairs, ArePrintableReferences, IsPrintableStep, IsPrintableLog, HasPlainYes, HasLogs, IsPrintable}
+use Rattle.pol_lang.specs.Files.{IsFileLanguage, IsFileInstance}
+use Rattle.pol_cli.specs.Reports.{class_item, answer_item, IsClassItem, IsInstanceItem}
+
+-- ---- the items of classes
+
+op_cells :
+    (identities : Operation → Type 0) (k : ℕ) (lang : LanguageView) (cells : List ℕ)
+    → k ≤ 4
+    → IsLanguage lang
+    → IsTable identities k lang cells
+    → AreValues 625 cells
+op_cells identities k lang cells few is table =
+    let some : 1 ≤ lang.domain ^ k = one-le-pow k lang.domain is.domain_is.some in
+    let wide : lang.domain ^ k ≤ 5 ^ k = pow-le-pow_left is.domain_is.few k in
+    let long : 5 ^ k ≤ 5 ^ 4 = pow-le-pow_right (omega arith) few in
+    record {
+      some = omega (arith, some, table.is_operation.all_cells);
+      few = omega (arith, wide, long, table.is_operation.all_cells);
+      each = λ i none inside. omega (arith, table.is_operation.below i none inside, is.domain_is.few);
+    }
+
+set_cells : (lang : LanguageView) (cells : List ℕ) → IsLanguage lang → IsSetTable lang cells → AreValues 625 cells
+set_cells lang cells is table =
+    let some : 2 ^ 1 ≤ 2 ^ lang.domain = pow-le-pow_right (omega arith) is.domain_is.some in
+    let few : 2 ^ lang.domain ≤ 2 ^ 5 = pow-le-pow_right (omega arith) is.domain_is.few in
+    record {
+      some = omega (arith, some, table.is_set_function.all_cells);
+      few = omega (arith, few, table.is_set_function.all_cells);
+      each = λ i none inside. omega (arith, table.is_set_function.below i none inside, is.domain_is.few);
+    }
+
+-- the cells of a table of a class are few
+table_cells : (class : ClassName) (lang : LanguageView) (cells : List ℕ) → IsLanguage lang → IsTableOf class lang cells → AreValues 625 cells
+table_cells Constant lang cells is table = op_cells _ 1 lang cells (omega arith) is table
+table_cells Semilattice lang cells is table = op_cells _ 2 lang cells (omega arith) is table
+table_cells SetFunction lang cells is table = set_cells lang cells is table
+table_cells Majority lang cells is table = op_cells _ 3 lang cells (omega arith) is table
+table_cells Nu4 lang cells is table = op_cells _ 4 lang cells (omega arith) is table
+table_cells Affine lang cells is table = op_cells _ 3 lang cells (omega arith) is table
+table_cells Maltsev lang cells is table = op_cells _ 3 lang cells (omega arith) is table
+
+line_printable : (class : ClassName) (lang : LanguageView) (line : Line) → IsLanguage lang → ClassLine class lang line → IsPrintable (class_item class line)
+line_printable class lang Beyond is line = tt
+line_printable class lang (Sought None) is line = tt
+line_printable class lang (Sought (Some cells)) is line = table_cells class lang cells is line.1.holds
+
+pub class_printable : (lang : LanguageView) (class : ClassName) (told : Item) → IsFileLanguage lang → IsClassItem lang class told → IsPrintable told
+class_printable lang class told is item =
+    subst IsPrintable (sym item.item_is) (line_printable class lang item.line is.is_language item.is_line)
+
+-- ---- the steps of logs
+
+-- a step has at most 128 cases
+few_cases :
+    (lang : LanguageView) (inst : InstanceView) (nogood : List Pair) (basis : Basis)
+    → IsFileLanguage lang
+    → IsFileInstance lang inst
+    → CanRestOn inst nogood basis
+    → length (cases_of lang inst basis nogood) ≤ 128
+few_cases lang inst nogood (Basis.ByConstraint c) is fits rests =
+    let at = constraint_of inst c in
+    let cases = filter (is_case at.scope nogood) (rows_of lang at.relation) in
+    let rows = is.few_tuples at.relation no_named (fits.fits c no_constraint rests).known in
+    omega (arith, length-map cases (reading at.scope), length-filter (is_case at.scope nogood) (rows_of lang at.relation), count_by-le-length (is_case at.scope nogood) (rows_of lang at.relation), rows)
+few_cases lang inst nogood (Basis.ByVariable v) is fits rests =
+    omega (arith, length-map-range_with_len (value_case v) 0 lang.domain, is.is_language.domain_is.few)
+
+basis_short :
+    (lang : LanguageView) (inst : InstanceView) (nogood : List Pair) (basis : Basis)
+    → IsFileInstance lang inst
+    → CanRestOn inst nogood basis
+    → IsShort (basis_number basis)
+basis_short lang inst nogood (Basis.ByConstraint c) fits rests = omega (arith, rests, fits.few_constraints)
+basis_short lang inst nogood (Basis.ByVariable v) fits rests = omega (arith, rests.0, fits.few_variables)
+
+step_printable :
+    (lang : LanguageView) (inst : InstanceView) (earlier : List StepView) (s : StepView)
+    → IsFileLanguage lang
+    → IsFileInstance lang inst
+    → length earlier ≤ 1254701
+    → length s.nogood ≤ 3
+    → IsValidStep lang inst earlier s
+    → IsPrintableStep s
+step_printable lang inst earlier s is fits few small valid = record {
+  basis = basis_short lang inst s.nogood s.basis fits valid.placed.rests;
+  pairs = record {
+    few = small;
+    each = λ i none inside.
+        (let pair = valid.placed.is_nogood.pairs i none inside in
+        record {
+          variable = omega (arith, pair.variable_known, fits.few_variables);
+          value = omega (arith, pair.value_known, is.is_language.domain_is.few);
+        });
+  };
+  references = record {
+    few = omega (arith, valid.referred.as_many, few_cases lang inst s.nogood s.basis is fits valid.placed.rests);
+    each = λ i none inside. omega (arith, valid.referred.to_earlier i none inside, few);
+  };
+}
+
+log_printable :
+    (most : ℕ) (lang : LanguageView) (inst : InstanceView) (log : List StepView)
+    → most ≤ 3
+    → IsFileLanguage lang
+    → IsFileInstance lang inst
+    → IsCertificate most lang inst log
+    → IsPrintableLog log
+log_printable most lang inst log three is fits certificate =
+    let small : FitsMost 3 log = record {
+      different = certificate.fits.different;
+      small = λ i none inside. omega (arith, certificate.fits.small i none inside, three);
+    } in
+    let steps = certificate.valid.steps in
+    let few : length log ≤ 1254701 = few_steps_of_three lang inst log is.is_language.domain_is.few fits.few_variables steps small in
+    record {
+      few = omega (arith, few);
+      each = λ i none inside. subst IsPrintableStep (get_or_default log i no_step none inside)
+          (step_printable lang inst (take i log) (step_at log i) is fits (omega (arith, few, inside, length-take i log))
+          (small.small i no_step inside) (steps i inside));
+    }
+
+-- ---- the items of instances
+
+answer_printable :
+    (class : ClassName) (most : ℕ) (lang : LanguageView) (inst : InstanceView) (given : InstanceAnswer)
+    → most ≤ 3
+    → HasPlainYes class
+    → HasLogs class
+    → IsFileLanguage lang
+    → IsFileInstance lang inst
+    → IsLogAnswer most lang inst given
+    → IsPrintable (answer_item inst.name (Some class) given)
+answer_printable class most lang inst (answer.Yes values) three plain logs is fits owed = record {
+  named = fits.name_is;
+  plain = plain;
+  solution = record {
+    some = omega (arith, owed.assigns.long, fits.some_variables);
+    few = omega (arith, owed.assigns.long, fits.few_variables);
+    each = λ i none inside. omega (arith, owed.assigns.below i none inside, is.is_language.domain_is.few);
+  };
+}
+answer_printable class most lang inst (answer.NoLog log) three plain logs is fits owed = record {
+  named = fits.name_is;
+  has_logs = logs;
+  steps = log_printable most lang inst log three is fits owed.1;
+}
+answer_printable class most lang inst answer.Undecided three plain logs is fits owed = absurd owed
+
+-- what has no solver is undecided
+undecided_printable : (chosen : Option ClassName) (lang : LanguageView) (inst : InstanceView) (given : InstanceAnswer) → IsFileInstance lang inst → given ≡ answer.Undecided → IsPrintable (answer_item inst.name chosen given)
+undecided_printable None lang inst given fits same = fits.name_is
+undecided_printable (Some class) lang inst given fits same =
+    subst (λ some. IsPrintable (answer_item inst.name (Some class) some)) (sym same) fits.name_is
+
+owed_printable :
+    (chosen : Option ClassName) (lang : LanguageView) (inst : InstanceView) (given : InstanceAnswer)
+    → IsFileLanguage lang
+    → IsFileInstance lang inst
+    → AnswersBy chosen lang inst given
+    → IsPrintable (answer_item inst.name chosen given)
+owed_printable None lang inst given is fits owed = fits.name_is
+owed_printable (Some Constant) lang inst given is fits owed = answer_printable Constant 1 lang inst given (omega arith) tt tt is fits owed
+owed_printable (Some Semilattice) lang inst given is fits owed = answer_printable Semilattice 1 lang inst given (omega arith) tt tt is fits owed
+owed_printable (Some SetFunction) lang inst given is fits owed = answer_printable SetFunction 1 lang inst given (omega arith) tt tt is fits owed
+owed_printable (Some Majority) lang inst given is fits owed = answer_printable Majority 2 lang inst given (omega arith) tt tt is fits owed
+owed_printable (Some Nu4) lang inst given is fits owed = answer_printable Nu4 3 lang inst given (omega arith) tt tt is fits owed
+owed_printable (Some Affine) lang inst given is fits owed = undecided_printable (Some Affine) lang inst given fits owed
+owed_printable (Some Maltsev) lang inst given is fits owed = undecided_printable (Some Maltsev) lang inst given fits owed
+
+pub instance_printable : (lang : LanguageView) (inst : InstanceView) (told : Item) → IsFileLanguage lang → IsFileInstance lang inst → IsInstanceItem lang inst told → IsPrintable told
+instance_printable lang inst told is fits item =
+    subst IsPrintable (sym item.item_is) (owed_printable item.chosen lang inst item.given is fits item.owed)

@@ -1,8 +1,0 @@
-use Rattle.std.proofs.Common.{[], ◌∷◌, codes}
-use Rattle.pol_base.specs.Names.{class_word}
-use Rattle.pol_cli.proofs.PrintLemmas.{line_front_cut}
-use Rattle.pol_cli.proofs.items.put_answered.Goals as goal
-
-pub returns-in_err-put_begun : goal.returns-in_err-put_begun
-returns-in_err-put_begun c =
-    record { puts = line_front_cut c.from_residual.result _ _ (codes "instance") (c.args.name.now ∷ c.args.answer.now ∷ []) (class_word c.args.class ∷ []) c.from_residual.ensures.0 c.in_err-put_begun.ensures.puts }

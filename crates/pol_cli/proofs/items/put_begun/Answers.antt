@@ -1,8 +1,0 @@
-use Rattle.std.proofs.Common.{◌++◌, [], ◌∷◌, refl, codes, append_assoc}
-use Rattle.pol_text.specs.Texts.{spaced_texts}
-use Rattle.pol_cli.proofs.PrintLemmas.{cut_off}
-use Rattle.pol_cli.proofs.items.put_begun.Goals as goal
-
-pub returns-in_err-put_token : goal.returns-in_err-put_token
-returns-in_err-put_token c =
-    record { puts = cut_off c.from_residual-in_err-put_token.result _ _ _ (codes "instance") (codes " " ++ c.args.name.now) (spaced_texts (c.args.word.now ∷ [])) _ c.from_residual-in_err-put_token.ensures.0 c.in_ok-append.ensures.ok c.in_err-put_token.ensures.puts (simp append_assoc refl) }

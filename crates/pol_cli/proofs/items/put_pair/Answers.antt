@@ -1,9 +1,0 @@
-use Rattle.std.proofs.Common.{◌++◌, [], ◌∷◌, refl, codes, decimal}
-use Rattle.pol_text.specs.Texts.{spaced_texts}
-use Rattle.pol_cli.proofs.PrintLemmas.{cut_first}
-use Rattle.pol_cli.proofs.items.put_pair.Goals as goal
-
-pub returns-in_err-put_spaced : goal.returns-in_err-put_spaced
-returns-in_err-put_spaced c =
-    let front = rw c.from.ensures at c.in_err-put_spaced.ensures.puts in
-    record { puts = cut_first c.from_residual.result _ _ (codes " " ++ decimal c.args.variable) (spaced_texts (decimal c.args.value ∷ [])) _ c.from_residual.ensures.0 front refl }

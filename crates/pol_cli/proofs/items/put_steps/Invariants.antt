@@ -1,8 +1,0 @@
-use Rattle.std.proofs.Common.{◌≡◌, ◌++◌, take}
-use Rattle.pol_text.specs.Texts.{joined}
-use Rattle.pol_cli.specs.Items.{step_line}
-use Rattle.pol_cli.proofs.items.put_steps.Given as goal
-
--- the steps so far stand behind what was there
-abbrev pub invariant-loop-s : goal.invariant-loop-s
-invariant-loop-s l = l.out ≡ l.initial.out ++ joined step_line (take l.s l.log)

@@ -1,8 +1,0 @@
-use Rattle.std.proofs.Common.{◌++◌, [], ◌∷◌, refl, codes}
-use Rattle.pol_text.specs.Texts.{spaced_texts}
-use Rattle.pol_cli.proofs.PrintLemmas.{cut_first}
-use Rattle.pol_cli.proofs.items.put_undecided.Goals as goal
-
-pub returns-in_err-put_begun : goal.returns-in_err-put_begun
-returns-in_err-put_begun c =
-    record { puts = cut_first c.from_residual.result _ _ (codes "instance" ++ spaced_texts (c.args.name.now ∷ codes "undecided" ∷ [])) (codes "\n") _ c.from_residual.ensures.0 c.in_err-put_begun.ensures.puts refl }
