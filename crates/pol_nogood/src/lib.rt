@@ -7,6 +7,7 @@ mod laws;
 mod log;
 mod nogood;
 
+pub use cases::is_case;
 pub use checking::{LogFault, Why, check_log};
 pub use laws::{fault_laws, log_laws};
 pub use log::{Log, LogAnswer, Step};

@@ -1,0 +1,5 @@
+pub mod PairLemmas
+pub mod MaskLemmas
+pub mod SupportLemmas
+pub mod PruningLemmas
+pub mod WaitingLemmas
