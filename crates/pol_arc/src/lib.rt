@@ -4,5 +4,7 @@
 mod consistency;
 mod pruning;
 mod supports;
+mod width_one;
 
 pub use consistency::{Consistency, arc};
+pub use width_one::solve_width_one;
