@@ -1,5 +1,5 @@
 -- Arc consistency of masks: one mask of values for each variable.
-use Rattle.std.specs.Prelude.{◌≡◌, ◌<◌, ◌^◌, ℕ, List, length, slice_index, All, Contains, IsBitSet}
+use Rattle.std.specs.Prelude.{◌≡◌, ◌≢◌, ◌<◌, ◌^◌, ℕ, List, length, slice_index, All, Contains, IsBitSet}
 use Rattle.pol_relation.specs.Relations.{LanguageView, rows_of}
 use Rattle.pol_relation.specs.Instances.{InstanceView, constraint_of}
 
@@ -36,6 +36,10 @@ SupportsAll lang inst masks c =
 -- so does every constraint
 abbrev pub IsArcConsistent : LanguageView → InstanceView → List ℕ → Type 0
 IsArcConsistent lang inst masks = (c : ℕ) → c < length inst.constraints → SupportsAll lang inst masks c
+
+-- arc-consistent, if each mask has a value
+abbrev pub IsSettled : LanguageView → InstanceView → List ℕ → Type 0
+IsSettled lang inst masks = All (λ m. m ≢ 0) masks → IsArcConsistent lang inst masks
 
 -- one mask of values of the domain for each variable
 pub record AreMasksOf (lang : LanguageView) (inst : InstanceView) (masks : List ℕ) : Type 0 where

@@ -3,7 +3,7 @@ ghost use Rattle.pol_relation.specs.Instances.{Fits};
 ghost use Rattle.pol_nogood.specs.Logs.{value_cases};
 ghost use Rattle.pol_nogood.specs.ValidLogs.{HasReferences};
 ghost use Rattle.pol_arc.specs.Answers.{DomainsAreGreatest, WipedOnlyWhereEmpty, WipedHasCertificate};
-ghost use Rattle.pol_arc.specs.Arcs.{IsArcConsistent};
+ghost use Rattle.pol_arc.specs.Arcs.{IsSettled};
 ghost use Rattle.pol_arc.specs.Pruned.{IsDeleted, IsPruned, IsWipedLog};
 
 use crate::pruning::Pruning;
@@ -43,7 +43,7 @@ pub fn arc(alloc: Global, lang: &Language, inst: &Instance) -> Result<Consistenc
     answer(alloc, lang, inst, masks.as_slice(), log)
 }
 
-/// The answer for pruned masks that are arc-consistent.
+/// The answer for pruned masks that are arc-consistent, if each of them has a value.
 fn answer(
     alloc: Global,
     lang: &Language,
@@ -53,7 +53,7 @@ fn answer(
 ) -> Result<Consistency, NoMemory>
     requires few_variables { length inst.now.variables ≤ 40 }
     requires pruned { IsPruned lang.now inst.now masks.now log }
-    requires consistent { IsArcConsistent lang.now inst.now masks.now }
+    requires settled { IsSettled lang.now inst.now masks.now }
     ensures domains { IfOk result (DomainsAreGreatest lang.now inst.now) }
     ensures wiped_only_where_empty { IfOk result (WipedOnlyWhereEmpty lang.now inst.now) }
     ensures certificate { IfOk result (WipedHasCertificate lang.now inst.now) }

@@ -1,6 +1,6 @@
-ghost use Rattle.std.specs.Prelude.{◌≡◌, ℕ, ◌<◌, ◌≤◌, length, IfOk, OnOk, slice_index};
+ghost use Rattle.std.specs.Prelude.{◌≡◌, ◌≢◌, ℕ, ◌<◌, ◌≤◌, length, All, IfOk, OnOk, IsTrue};
 ghost use Rattle.pol_relation.specs.Instances.{Fits, constraint_of};
-ghost use Rattle.pol_arc.specs.Arcs.{IsSupportedAt, SupportsAll, IsArcConsistent};
+ghost use Rattle.pol_arc.specs.Arcs.{IsSupportedAt, SupportsAll, IsSettled};
 ghost use Rattle.pol_arc.specs.Pruned.{IsPruned, IsWithout, Prunes};
 ghost use Rattle.pol_arc.specs.Waiting.{IsDone, DoneAreSupported, KeepsDone, IsTouched};
 
@@ -185,7 +185,14 @@ impl Pruning {
         self.revise_constraint(alloc, lang, inst, c)
     }
 
-    /// Looks at each constraint that waits, in their order.
+    /// Whether some variable has no value left.
+    fn is_wiped(&self) -> bool
+        ensures wiped { IsTrue result → ¬ All (λ m. m ≢ 0) self.now.masks.items }
+    {
+        self.masks.contains(&0)
+    }
+
+    /// Looks at each constraint that waits, in their order, until some variable has no value left.
     fn visit_all(&mut self, alloc: Global, lang: &Language, inst: &Instance) -> Result<(), NoMemory>
         requires fits { Fits lang.now inst.now }
         requires few { length inst.now.variables ≤ 40 }
@@ -193,18 +200,21 @@ impl Pruning {
         requires long { length self.old.waits.items ≡ length inst.now.constraints }
         requires waiting { DoneAreSupported lang.now inst.now self.old.masks.items self.old.waits.items }
         ensures prunes { OnOk result (Prunes lang.now inst.now
-            (λ m. IsArcConsistent lang.now inst.now m)
+            (λ m. IsSettled lang.now inst.now m)
             self.old.masks.items self.old.log self.new.masks.items self.new.log) }
         ensures long { OnOk result (length self.new.waits.items ≡ length inst.now.constraints) }
         ensures waiting { OnOk result (DoneAreSupported lang.now inst.now self.new.masks.items self.new.waits.items) }
     {
         for c in 0..inst.constraints() {
             self.visit(alloc, lang, inst, c)?;
+            if self.is_wiped() {
+                return Ok(());
+            }
         }
         Ok(())
     }
 
-    /// Looks at the constraints that wait, until no value is deleted.
+    /// Looks at the constraints that wait, until none waits or some variable has no value left.
     pub(crate) fn settle(&mut self, alloc: Global, lang: &Language, inst: &Instance) -> Result<(), NoMemory>
         requires fits { Fits lang.now inst.now }
         requires few { length inst.now.variables ≤ 40 }
@@ -212,12 +222,12 @@ impl Pruning {
         requires long { length self.old.waits.items ≡ length inst.now.constraints }
         requires waiting { DoneAreSupported lang.now inst.now self.old.masks.items self.old.waits.items }
         ensures pruned { OnOk result (IsPruned lang.now inst.now self.new.masks.items self.new.log) }
-        ensures consistent { OnOk result (IsArcConsistent lang.now inst.now self.new.masks.items) }
+        ensures settled { OnOk result (IsSettled lang.now inst.now self.new.masks.items) }
     {
         loop {
             let before = self.log.len();
             self.visit_all(alloc, lang, inst)?;
-            if self.log.len() == before {
+            if self.log.len() == before || self.is_wiped() {
                 return Ok(());
             }
         }
