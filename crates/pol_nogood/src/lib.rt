@@ -8,6 +8,7 @@ mod log;
 mod nogood;
 mod trimming;
 
+pub use cases::is_case;
 pub use checking::{LogFault, Why, check_log};
 pub use laws::{fault_laws, log_laws};
 pub use log::{Log, LogAnswer, Step};

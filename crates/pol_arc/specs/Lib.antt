@@ -1,0 +1,4 @@
+pub mod Arcs
+pub mod Answers
+pub mod Pruned
+pub mod Waiting

@@ -1,0 +1,10 @@
+//! Arc consistency of instances with its log, and instances of languages with a set function.
+#![tactic(auto)]
+
+mod consistency;
+mod pruning;
+mod supports;
+mod width_one;
+
+pub use consistency::{Consistency, arc};
+pub use width_one::solve_width_one;
