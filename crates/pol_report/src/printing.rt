@@ -99,12 +99,7 @@ fn put_answered(
 }
 
 /// Appends the line of a solution.
-fn put_yes(
-    out: &mut Values,
-    name: &[u8],
-    class: ClassName,
-    values: &[u8],
-) -> Result<(), NoMemory>
+fn put_yes(out: &mut Values, name: &[u8], class: ClassName, values: &[u8]) -> Result<(), NoMemory>
     ensures puts { Puts result out.old out.new (yes_item name.now class values.now) }
 {
     put_answered(out, name, b"yes", class)?;
@@ -113,12 +108,7 @@ fn put_yes(
 }
 
 /// Appends the line of a No, and the steps of the log behind it.
-fn put_no(
-    out: &mut Values,
-    name: &[u8],
-    class: ClassName,
-    log: &Log,
-) -> Result<(), NoMemory>
+fn put_no(out: &mut Values, name: &[u8], class: ClassName, log: &Log) -> Result<(), NoMemory>
     ensures puts { Puts result out.old out.new (no_item name.now class log.now) }
 {
     put_no_line(out, name, class, log.len())?;
