@@ -50,7 +50,6 @@ few_ascending numbers n ascending below =
 -- ---- what holds of a trimmed log
 
 module _ (log part : List StepView) (is : IsTrimmed log part) where
-
   abbrev number : ℕ → ℕ
   number i = get_or is.numbers i 0
 
@@ -89,7 +88,6 @@ module _ (log part : List StepView) (is : IsTrimmed log part) where
   -- a reference to an earlier step, in the part
   module _ (i j : ℕ) (inside : i < length part) (known : j < length (step_at log (number i)).references)
       (earlier : get_or (step_at log (number i)).references j 0 < number i) where
-
     renumbered_at : IsRenumbered is.numbers (number i) (get_or (step_at log (number i)).references j 0) (get_or (step_at part i).references j 0)
     renumbered_at = (is.copies i inside).renumbered j known
 
@@ -104,6 +102,7 @@ module _ (log part : List StepView) (is : IsTrimmed log part) where
     where
       later : number s + 1 < length log
       later = omega (arith, less_at is.numbers s (s + 1) is.are_needed.ascending (omega arith) (within (s + 1) before_last), number_known (s + 1) before_last)
+
       from : (t : ℕ) → number s < t → IsNeeded log t → Contains (step_at log t).references (number s) → IsReferredTo part s
       from t less needed among = at (place t needed)
         where
@@ -123,13 +122,13 @@ module _ (log part : List StepView) (is : IsTrimmed log part) where
                 known = inside;
                 refers = (refers.0, there, get_or_default (step_at part i).references refers.0 s 0 there ∙ same_step);
               }
+
       by : IsNeeded log (number s) → number s ≡ number s → IsReferredTo part s
       by (last _ ends) same = absurd (omega (arith, ends, later))
       by (referred _ t less needed among) same = from t less needed among
 
   -- the copy of a step whose references are to earlier steps refers to the copies of these
   module _ (i : ℕ) (inside : i < length part) (earlier : All (λ r. r < number i) (step_at log (number i)).references) where
-
     abbrev old_nogood : ℕ → List Pair
     old_nogood j = nogood_at (take (number i) log) (get_or (step_at log (number i)).references j 0)
 
@@ -157,7 +156,6 @@ module _ (log part : List StepView) (is : IsTrimmed log part) where
     }
 
   module _ (lang : LanguageView) (inst : InstanceView) (valid : IsValidLog lang inst log) where
-
     copy_valid : (i : ℕ) → i < length part → IsValidStep lang inst (take i part) (step_at part i)
     copy_valid i inside =
         let old = valid.steps (number i) (number_known i inside) in
@@ -293,7 +291,6 @@ IsCopying-unmarked log marks s part numbers unmarked is =
 
 -- with the marks of the needed steps the copies are the trimmed log
 module _ (log : List StepView) (marks : List Bool) (are : AreMarks log marks) where
-
   marked_needed : AreNeeded log (marked_below marks (length log))
   marked_needed = record {
     ascending = marked_ascending marks (length log);
@@ -312,6 +309,7 @@ module _ (log : List StepView) (marks : List Bool) (are : AreMarks log marks) wh
     where
       new : r < s → renumbered (numbers_below marks s) r ≡ length (marked_below marks r)
       new below = get_or-map-range_with_len (λ t. length (marked_below marks t)) 0 s r r r below (omega arith)
+
       found : r < s → (length (marked_below marks r) < length (marked_below marks (length log))) × (get_or (marked_below marks (length log)) (length (marked_below marks r)) 0 ≡ r)
       found below =
           let too = referred r s below needed among in
