@@ -4,7 +4,8 @@ use Rattle.std.proofs.lemmas.Bool.{cases_eq, cases_lt, true≢false}
 use Rattle.std.proofs.lemmas.List.{get_or-set_same, get_or-set_other, get_or_append_left, get_or-append_right, get_or-drop, get_or-take, length-set, length-drop, length-take-le}
 use Rattle.std.proofs.lemmas.List.Elements.{Contains-push_cases, Contains-append_left, Contains-push}
 use Rattle.pol_nogood.specs.Logs.{StepView, step_at}
-use Rattle.pol_nogood.specs.Trims.{IsNeeded, IsMarked, AreMarks, MarksToo}
+use Rattle.pol_nogood.specs.Trims.{IsNeeded}
+use Rattle.pol_nogood.specs.Marks.{IsMarked, AreMarks, MarksToo}
 use Rattle.pol_nogood.specs.Trims.IsNeeded.{last, referred}
 
 pub below_marked : (marks : List Bool) (s : ℕ) → IsMarked marks s → s < length marks

@@ -1,8 +1,8 @@
 use Rattle.std.proofs.Common.{◌≡◌, ◌∙◌, [], ◌∷◌, ◌++◌, length, ap, arith, subst}
 use Rattle.pol_nogood.specs.Logs.{step_at}
 use Rattle.pol_nogood.specs.Steps.{step_named}
-use Rattle.pol_nogood.specs.Trims.{copy_by}
-use Rattle.pol_nogood.proofs.TrimLemmas.{IsCopying, few_marked, length_copying, IsCopying-marked, IsCopying-unmarked, IsTrimmed-from_copying}
+use Rattle.pol_nogood.specs.Marks.{copy_by}
+use Rattle.pol_nogood.proofs.CopyLemmas.{IsCopying, few_marked, length_copying, IsCopying-marked, IsCopying-unmarked, IsTrimmed-from_copying}
 use Rattle.pol_nogood.proofs.trimming.copy_marked.Goals as goal
 use Rattle.pol_nogood.proofs.trimming.copy_marked.Goals.{then-marks-s+in_ok-copied+in_ok-push, else-marks-s}
 
