@@ -9,6 +9,7 @@ pub mod LogLemmas
 pub mod LogMaking
 pub mod LogSound
 pub mod LogWalks
+pub mod CopyLemmas
 pub mod MarkLemmas
 pub mod PackedPairs
 pub mod TrimLemmas

@@ -4,7 +4,8 @@ use Rattle.std.proofs.lemmas.Bool.{cases_eq, cases_lt, true≢false}
 use Rattle.std.proofs.lemmas.List.{get_or-set_same, get_or-set_other, get_or_append_left, get_or-append_right, get_or-drop, get_or-take, length-set, length-drop, length-take-le}
 use Rattle.std.proofs.lemmas.List.Elements.{Contains-push_cases, Contains-append_left, Contains-push}
 use Rattle.pol_nogood.specs.Logs.{StepView, step_at}
-use Rattle.pol_nogood.specs.Trims.{IsNeeded, IsMarked, AreMarks, MarksToo}
+use Rattle.pol_nogood.specs.Trims.{IsNeeded}
+use Rattle.pol_nogood.specs.Marks.{IsMarked, AreMarks, MarksToo}
 use Rattle.pol_nogood.specs.Trims.IsNeeded.{last, referred}
 
 pub below_marked : (marks : List Bool) (s : ℕ) → IsMarked marks s → s < length marks
@@ -52,6 +53,7 @@ MarksToo-set references before now r inside marks = record {
     at : (s : ℕ) → s < length before → Contains references s ⊎ (r ≡ s) → IsMarked (set now r true) s
     at s below (inl among) = still_set now r s (marks.marked s below among)
     at s below (inr same) = subst (λ i. IsMarked (set now r true) i) same (set_here now r inside)
+
     from : (s : ℕ) → IsMarked now s ⊎ (s ≡ r) → IsMarked before s ⊎ Contains (references ++ r ∷ []) s
     from s (inl is) = more (marks.only s is)
       where
@@ -71,6 +73,7 @@ MarksToo-wild references before now r outside marks = record {
     at : (s : ℕ) → s < length before → Contains references s ⊎ (r ≡ s) → IsMarked now s
     at s below (inl among) = marks.marked s below among
     at s below (inr same) = absurd (omega (arith, marks.as_many))
+
     more : (s : ℕ) → IsMarked before s ⊎ Contains references s → IsMarked before s ⊎ Contains (references ++ r ∷ []) s
     more s (inl old) = inl old
     more s (inr among) = inr (Contains-append_left references (r ∷ []) s among)
@@ -110,15 +113,20 @@ AreMarksFrom-marked log t marks front is too are = record {
   where
     inside : t < length marks
     inside = below_marked marks t is
+
     length_front : length (take t marks) ≡ t
     length_front = length-take-le t marks (omega (arith, inside))
+
     long : length front ≡ t
     long = too.as_many ∙ length_front
+
     above : (s : ℕ) → t ≤ s → IsMarked (front ++ drop t marks) s → IsMarked marks s
     above s from marked = sym (marked_behind front marks t s long from) ∙ marked
+
     stays : (s : ℕ) → IsMarked marks s → (s < t) ⊎ (t ≤ s) → IsMarked (front ++ drop t marks) s
     stays s marked (inl before) = get_or_append_left front (drop t marks) false s (omega (arith, long)) ∙ too.kept s (get_or-take t marks s false before ∙ marked)
     stays s marked (inr from) = marked_behind front marks t s long from ∙ marked
+
     was : (s : ℕ) → IsMarked (front ++ drop t marks) s → (s < t) ⊎ (t ≤ s) → IsMarked marks s ⊎ ((s < t) × Contains (step_at log t).references s)
     was s marked (inr from) = inl (above s from marked)
     was s marked (inl before) = from (too.only s (sym (get_or_append_left front (drop t marks) false s (omega (arith, long))) ∙ marked))
@@ -126,9 +134,11 @@ AreMarksFrom-marked log t marks front is too are = record {
         from : IsMarked (take t marks) s ⊎ Contains (step_at log t).references s → IsMarked marks s ⊎ ((s < t) × Contains (step_at log t).references s)
         from (inl old) = inl (sym (get_or-take t marks s false before) ∙ old)
         from (inr among) = inr (before, among)
+
     known : (s : ℕ) → IsMarked marks s ⊎ ((s < t) × Contains (step_at log t).references s) → IsNeeded log s
     known s (inl old) = are.only s old
     known s (inr leads) = referred s t leads.0 (are.only t is) leads.1
+
     by : (r s : ℕ) → r < s → t ≤ s → IsMarked marks s → Contains (step_at log s).references r → (s ≡ t) ⊎ (s ≡ t → ⊥) → IsMarked (front ++ drop t marks) r
     by r s less from marked among (inr other) = stays r (are.led r s less (omega arith) marked among) (cases_lt r t)
     by r s less from marked among (inl same) =
@@ -148,6 +158,7 @@ AreMarksFrom-last log marks long unmarked some = record {
   where
     same : length (set marks (length marks - 1) true) ≡ length log
     same = length-set marks (length marks - 1) true ∙ long
+
     known : (s : ℕ) → IsMarked marks s ⊎ (s ≡ length marks - 1) → IsNeeded log s
     known s (inl is) = absurd (true≢false (sym is ∙ unmarked s false (below_marked marks s is)))
     known s (inr at_end) = last s (omega (arith, long, some))

@@ -4,5 +4,6 @@ pub mod Steps
 pub mod LogFaults
 pub mod ValidLogs
 pub mod Trims
+pub mod Marks
 pub mod Answers
 pub mod Laws

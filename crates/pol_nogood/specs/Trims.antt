@@ -1,5 +1,5 @@
 -- The part of a log that its last step leads to by references.
-use Rattle.std.specs.Prelude.{◌≡◌, ◌↔◌, ◌⊎◌, Bool, true, false, ℕ, ◌+◌, ◌<◌, ◌≤◌, List, length, map, slice_index, slice_index_or}
+use Rattle.std.specs.Prelude.{◌≡◌, ℕ, ◌+◌, ◌<◌, ◌≤◌, List, length, slice_index}
 use Rattle.std.specs.Prelude.{All, AllPairs, Contains}
 use Rattle.pol_nogood.specs.Logs.{StepView, step_at}
 
@@ -47,27 +47,3 @@ pub record IsReferredTo (log : List StepView) (s : ℕ) : Type 0 where
 -- each step but the last is referred to by a later one
 abbrev pub AreReferredTo : List StepView → Type 0
 AreReferredTo log = (s : ℕ) → s + 1 < length log → IsReferredTo log s
-
--- the mark at the number is set
-abbrev pub IsMarked : List Bool → ℕ → Type 0
-IsMarked marks s = slice_index_or marks s false ≡ true
-
--- a mark for each step, set where the step is needed
-pub record AreMarks (log : List StepView) (marks : List Bool) : Type 0 where
-  pub as_many : length marks ≡ length log
-  pub exact : (s : ℕ) → IsMarked marks s ↔ IsNeeded log s
-
--- the marks that were set before, and those at the references, as far as there are marks
-pub record MarksToo (references : List ℕ) (before now : List Bool) : Type 0 where
-  pub as_many : length now ≡ length before
-  pub kept : (s : ℕ) → IsMarked before s → IsMarked now s
-  pub marked : (s : ℕ) → s < length before → Contains references s → IsMarked now s
-  pub only : (s : ℕ) → IsMarked now s → IsMarked before s ⊎ Contains references s
-
--- what stands at the number, and the number itself where nothing does
-abbrev pub renumbered : List ℕ → ℕ → ℕ
-renumbered numbers r = slice_index_or numbers r r
-
--- the step with the references renumbered
-abbrev pub copy_by : List ℕ → StepView → StepView
-copy_by numbers s = record { basis = s.basis; nogood = s.nogood; references = map (renumbered numbers) s.references }

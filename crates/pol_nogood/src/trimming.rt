@@ -4,7 +4,8 @@ ghost use Rattle.pol_relation.specs.Instances.{InstanceView};
 ghost use Rattle.pol_nogood.specs.Logs.{FitsMost};
 ghost use Rattle.pol_nogood.specs.Steps.{step_named};
 ghost use Rattle.pol_nogood.specs.ValidLogs.{IsValidLog};
-ghost use Rattle.pol_nogood.specs.Trims.{IsTrimmed, AreReferredTo, AreMarks, MarksToo, copy_by, renumbered};
+ghost use Rattle.pol_nogood.specs.Trims.{IsTrimmed, AreReferredTo};
+ghost use Rattle.pol_nogood.specs.Marks.{AreMarks, MarksToo, copy_by, renumbered};
 
 use crate::{Log, Step};
 use pol_base::{NoMemory, Numbers};

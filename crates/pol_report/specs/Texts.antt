@@ -17,9 +17,9 @@ head_line = printed_line (codes "polyanna-report" ∷ codes "1" ∷ [])
 abbrev pub last_line : List ℕ
 last_line = printed_line (codes "end" ∷ [])
 
--- a line of a class: the cells of its table, `none` or `beyond`
-abbrev pub class_line : ClassName → List (List ℕ) → List ℕ
-class_line class tokens = printed_line (codes "class" ∷ class_word class ∷ tokens)
+-- the item of a class: the cells of its table, `none` or `beyond`
+abbrev pub class_item : ClassName → List (List ℕ) → List ℕ
+class_item class tokens = printed_line (codes "class" ∷ class_word class ∷ tokens)
 
 -- a line of an instance
 abbrev pub instance_line : List ℕ → List (List ℕ) → List ℕ
@@ -46,23 +46,24 @@ reference_tokens references = decimal (length references) ∷ map decimal refere
 abbrev pub step_line : StepView → List ℕ
 step_line s = printed_line (basis_tokens s.basis ++ nogood_tokens s.nogood ++ reference_tokens s.references)
 
--- the line of a solution
-abbrev pub yes_line : List ℕ → ClassName → List ℕ → List ℕ
-yes_line name class values = instance_line name (codes "yes" ∷ class_word class ∷ map decimal values)
+-- the item of a solution, found by the method of the class
+abbrev pub yes_item : List ℕ → ClassName → List ℕ → List ℕ
+yes_item name class values = instance_line name (codes "yes" ∷ class_word class ∷ map decimal values)
 
--- the line of a No, with the number of the steps of its log
-abbrev pub no_line : List ℕ → ClassName → ℕ → List ℕ
-no_line name class steps = instance_line name (codes "no" ∷ class_word class ∷ decimal steps ∷ [])
+-- the item of a No: how many steps its log has, and the steps
+abbrev pub no_item : List ℕ → ClassName → List StepView → List ℕ
+no_item name class log =
+    instance_line name (codes "no" ∷ class_word class ∷ decimal (length log) ∷ []) ++ joined step_line log
 
--- the line of an instance that is not answered
-abbrev pub undecided_line : List ℕ → List ℕ
-undecided_line name = instance_line name (codes "undecided" ∷ [])
+-- the item of an instance that is not answered
+abbrev pub undecided_item : List ℕ → List ℕ
+undecided_item name = instance_line name (codes "undecided" ∷ [])
 
--- the lines of the item: of a No its own line, and behind it the steps of its log
+-- the text of the item
 abbrev pub item_text : Item → List ℕ
-item_text (item.ClassTable class cells) = class_line class (map decimal cells)
-item_text (item.ClassNone class) = class_line class (codes "none" ∷ [])
-item_text item.ClassBeyond = class_line Nu4 (codes "beyond" ∷ [])
-item_text (item.Yes name class values) = yes_line name class values
-item_text (item.NoLog name class log) = no_line name class (length log) ++ joined step_line log
-item_text (item.Undecided name) = undecided_line name
+item_text (item.ClassTable class cells) = class_item class (map decimal cells)
+item_text (item.ClassNone class) = class_item class (codes "none" ∷ [])
+item_text item.ClassBeyond = class_item Nu4 (codes "beyond" ∷ [])
+item_text (item.Yes name class values) = yes_item name class values
+item_text (item.NoLog name class log) = no_item name class log
+item_text (item.Undecided name) = undecided_item name

@@ -5,9 +5,14 @@ use pol_nogood::Log;
 #[derive(Debug, Drop)]
 pub enum Item {
     /// The cells of the class's table.
-    ClassTable { kind: ClassName, cells: Values },
+    ClassTable {
+        kind: ClassName,
+        cells: Values,
+    },
     /// No operation of the class preserves the language.
-    ClassNone { kind: ClassName },
+    ClassNone {
+        kind: ClassName,
+    },
     /// A table of the class `nu4` was not sought.
     ClassBeyond,
     /// A solution, found by the method of the class.
@@ -23,5 +28,7 @@ pub enum Item {
         log: Log,
     },
     /// The instance is not answered.
-    Undecided { name: Values },
+    Undecided {
+        name: Values,
+    },
 }

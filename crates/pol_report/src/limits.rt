@@ -44,9 +44,7 @@ pub fn printable(item: &Item) -> bool
 fn are_values(values: &[u8], most: usize) -> bool
     ensures values { IsTrue result ↔ AreValues most values.now }
 {
-    !values.is_empty()
-        && values.len() <= most
-        && values.iter().all(|value| *value <= LARGEST_VALUE)
+    !values.is_empty() && values.len() <= most && values.iter().all(|value| *value <= LARGEST_VALUE)
 }
 
 /// Whether the number has at most nine digits.
@@ -91,7 +89,9 @@ fn is_printable_step(step: &Step) -> bool
         Step::ByConstraint { c, .. } => *c,
         Step::ByVariable { v, .. } => *v,
     };
-    is_short(number) && are_printable_pairs(step.nogood()) && are_printable_references(step.references())
+    is_short(number)
+        && are_printable_pairs(step.nogood())
+        && are_printable_references(step.references())
 }
 
 fn are_printable_pairs(nogood: &Nogood) -> bool

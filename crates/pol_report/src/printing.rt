@@ -1,7 +1,7 @@
-ghost use Rattle.std.specs.Prelude.{◌≡◌, ◌++◌, [], ◌∷◌, length, map, codes, decimal};
+ghost use Rattle.std.specs.Prelude.{◌≡◌, ◌++◌, [], ◌∷◌, map, codes, decimal};
 ghost use Rattle.pol_base.specs.Names.{class_word};
-ghost use Rattle.pol_text.specs.Texts.{Puts, joined, spaced_texts};
-ghost use Rattle.pol_report.specs.Texts.{head_line, last_line, class_line, yes_line, no_line, undecided_line, step_line, item_text};
+ghost use Rattle.pol_text.specs.Texts.{Puts, spaced_texts};
+ghost use Rattle.pol_report.specs.Texts.{head_line, last_line, class_item, yes_item, no_item, undecided_item, instance_line, item_text};
 ghost use Rattle.pol_report.specs.Printable.{IsPrintable};
 
 use crate::Item;
@@ -43,7 +43,7 @@ pub fn put_last(out: &mut Values) -> Result<(), NoMemory>
 
 /// Appends the line of a class with the cells of its table.
 fn put_cells(out: &mut Values, class: ClassName, cells: &[u8]) -> Result<(), NoMemory>
-    ensures puts { Puts result out.old out.new (class_line class (map decimal cells.now)) }
+    ensures puts { Puts result out.old out.new (class_item class (map decimal cells.now)) }
 {
     put_class(out, class)?;
     put_values(out, cells)?;
@@ -52,7 +52,7 @@ fn put_cells(out: &mut Values, class: ClassName, cells: &[u8]) -> Result<(), NoM
 
 /// Appends the line of a class with a word in place of a table.
 fn put_word(out: &mut Values, class: ClassName, word: &[u8]) -> Result<(), NoMemory>
-    ensures puts { Puts result out.old out.new (class_line class (word.now ∷ [])) }
+    ensures puts { Puts result out.old out.new (class_item class (word.now ∷ [])) }
 {
     put_class(out, class)?;
     put_token(out, word)?;
@@ -69,7 +69,7 @@ fn put_class(out: &mut Values, class: ClassName) -> Result<(), NoMemory>
 
 /// Appends the line of an instance that is not answered.
 fn put_undecided(out: &mut Values, name: &[u8]) -> Result<(), NoMemory>
-    ensures puts { Puts result out.old out.new (undecided_line name.now) }
+    ensures puts { Puts result out.old out.new (undecided_item name.now) }
 {
     put_begun(out, name, b"undecided")?;
     out.append(b"\n")
@@ -99,13 +99,8 @@ fn put_answered(
 }
 
 /// Appends the line of a solution.
-fn put_yes(
-    out: &mut Values,
-    name: &[u8],
-    class: ClassName,
-    values: &[u8],
-) -> Result<(), NoMemory>
-    ensures puts { Puts result out.old out.new (yes_line name.now class values.now) }
+fn put_yes(out: &mut Values, name: &[u8], class: ClassName, values: &[u8]) -> Result<(), NoMemory>
+    ensures puts { Puts result out.old out.new (yes_item name.now class values.now) }
 {
     put_answered(out, name, b"yes", class)?;
     put_values(out, values)?;
@@ -113,14 +108,8 @@ fn put_yes(
 }
 
 /// Appends the line of a No, and the steps of the log behind it.
-fn put_no(
-    out: &mut Values,
-    name: &[u8],
-    class: ClassName,
-    log: &Log,
-) -> Result<(), NoMemory>
-    ensures puts { Puts result out.old out.new 
-        (no_line name.now class (length log.now) ++ joined step_line log.now) }
+fn put_no(out: &mut Values, name: &[u8], class: ClassName, log: &Log) -> Result<(), NoMemory>
+    ensures puts { Puts result out.old out.new (no_item name.now class log.now) }
 {
     put_no_line(out, name, class, log.len())?;
     put_steps(out, log)
@@ -128,7 +117,8 @@ fn put_no(
 
 /// Appends the line of a No, with the number of the steps of its log.
 fn put_no_line(out: &mut Values, name: &[u8], class: ClassName, steps: u32) -> Result<(), NoMemory>
-    ensures puts { Puts result out.old out.new (no_line name.now class steps) }
+    ensures puts { Puts result out.old out.new
+        (instance_line name.now (codes "no" ∷ class_word class ∷ decimal steps ∷ [])) }
 {
     put_answered(out, name, b"no", class)?;
     put_spaced(out, u64::from(steps))?;

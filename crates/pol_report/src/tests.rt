@@ -19,7 +19,9 @@ fn lines_of_classes(rt: HostRuntime) -> Result<(), Fail> {
     let kind = ClassName::SetFunction;
     let table = Item::ClassTable { kind, cells };
     assert!(rt; prints(rt.alloc(), &table, b"class set-function 0 1 4\n")?);
-    let none = Item::ClassNone { kind: ClassName::Affine };
+    let none = Item::ClassNone {
+        kind: ClassName::Affine,
+    };
     assert!(rt; prints(rt.alloc(), &none, b"class affine none\n")?);
     assert!(rt; prints(rt.alloc(), &Item::ClassBeyond, b"class nu4 beyond\n")?);
     Ok(())
@@ -102,7 +104,11 @@ fn values_are_few_and_small(rt: HostRuntime) -> Result<(), Fail> {
         let yes = yes(rt.alloc(), b"a", ClassName::Affine, values)?;
         let kind = ClassName::Maltsev;
         let cells = Values::from_slice(rt.alloc(), values)?;
-        assert_eq!(rt; printable(&Item::ClassTable { kind, cells }), table, "at {count}");
+        assert_eq!(rt;
+            printable(&Item::ClassTable { kind, cells }),
+            table,
+            "at {count}"
+        );
         assert_eq!(rt; printable(&yes), solution, "at {count}");
     }
     Ok(())
@@ -117,8 +123,14 @@ fn numbers_of_a_step_are_few_and_small(rt: HostRuntime) -> Result<(), Fail> {
         (by_constraint(alloc, 1_000_000_000, &[], &[])?, false),
         (by_variable(alloc, 999_999_999, &[], &[])?, true),
         (by_variable(alloc, 1_000_000_000, &[], &[])?, false),
-        (by_variable(alloc, 0, &[(0, 4), (999_999_999, 0)], &[])?, true),
-        (by_variable(alloc, 0, &[(0, 4), (1_000_000_000, 0)], &[])?, false),
+        (
+            by_variable(alloc, 0, &[(0, 4), (999_999_999, 0)], &[])?,
+            true,
+        ),
+        (
+            by_variable(alloc, 0, &[(0, 4), (1_000_000_000, 0)], &[])?,
+            false,
+        ),
         (by_variable(alloc, 0, &[(0, 5)], &[])?, false),
         (by_variable(alloc, 0, &[], &[999_999_999])?, true),
         (by_variable(alloc, 0, &[], &[0, 1_000_000_000])?, false),

@@ -1,8 +1,8 @@
 use Rattle.std.proofs.Common.{◌≡◌, ◌∙◌, [], ◌∷◌, ◌++◌, length, ap, arith, subst}
 use Rattle.pol_nogood.specs.Logs.{step_at}
 use Rattle.pol_nogood.specs.Steps.{step_named}
-use Rattle.pol_nogood.specs.Trims.{copy_by}
-use Rattle.pol_nogood.proofs.TrimLemmas.{IsCopying, few_marked, length_copying, IsCopying-marked, IsCopying-unmarked, IsTrimmed-from_copying}
+use Rattle.pol_nogood.specs.Marks.{copy_by}
+use Rattle.pol_nogood.proofs.CopyLemmas.{IsCopying, few_marked, length_copying, IsCopying-marked, IsCopying-unmarked, IsTrimmed-from_copying}
 use Rattle.pol_nogood.proofs.trimming.copy_marked.Goals as goal
 use Rattle.pol_nogood.proofs.trimming.copy_marked.Goals.{then-marks-s+in_ok-copied+in_ok-push, else-marks-s}
 
@@ -20,11 +20,11 @@ loop-s-preserved c =
     let numbers = c.in_ok-push-2.ensures.ok ∙ ap (λ number. c.loop-s.numbers ++ number ∷ []) c.len-number.ensures.steps in
     rw numbers
     (elim c.if-marks-s.branch [
-      then-marks-s+in_ok-copied+in_ok-push w ↦
+      | then-marks-s+in_ok-copied+in_ok-push w ↦
           let copy : step_named w.in_ok-copied.field-0 ≡ copy_by c.loop-s.numbers (step_at log c.loop-s.s) = w.in_ok-copied.ensures.copy ∙ (ap (λ before. copy_by before (step_named w.step.result.now)) w.as_slice.ensures.items ∙ ap (copy_by c.loop-s.numbers) w.step.ensures.step) in
           rw (w.part-is, w.in_ok-push.ensures.ok, copy)
           (IsCopying-marked log c.args.marks.now c.loop-s.s c.loop-s.part c.loop-s.numbers w.if-marks-s.true c.loop-s.invariant)
-    | else-marks-s w ↦ rw w.part-is (IsCopying-unmarked log c.args.marks.now c.loop-s.s c.loop-s.part c.loop-s.numbers w.if-marks-s.false c.loop-s.invariant)
+      | else-marks-s w ↦ rw w.part-is (IsCopying-unmarked log c.args.marks.now c.loop-s.s c.loop-s.part c.loop-s.numbers w.if-marks-s.false c.loop-s.invariant)
     ])
 
 -- all steps are passed

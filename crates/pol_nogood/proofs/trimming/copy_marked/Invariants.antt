@@ -1,4 +1,4 @@
-use Rattle.pol_nogood.proofs.TrimLemmas.{IsCopying}
+use Rattle.pol_nogood.proofs.CopyLemmas.{IsCopying}
 use Rattle.pol_nogood.proofs.trimming.copy_marked.Given as goal
 
 -- the marked steps so far are copied, and have their new numbers

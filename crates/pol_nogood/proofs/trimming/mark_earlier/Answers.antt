@@ -11,6 +11,6 @@ loop-reference-preserved c =
     let r = get_or c.args.references.now c.loop-reference.reference-index 0 in
     rw (take_more c.args.references.now c.loop-reference.reference-index 0 c.loop-reference-test.true)
     (elim c.if-place-marks.branch [
-      then-place-marks w ↦ rw w.marks-is (MarksToo-set done c.args.marks.now c.loop-reference.marks r w.if-place-marks.true c.loop-reference.invariant)
-    | else-place-marks w ↦ rw w.marks-is (MarksToo-wild done c.args.marks.now c.loop-reference.marks r w.if-place-marks.false c.loop-reference.invariant)
+      | then-place-marks w ↦ rw w.marks-is (MarksToo-set done c.args.marks.now c.loop-reference.marks r w.if-place-marks.true c.loop-reference.invariant)
+      | else-place-marks w ↦ rw w.marks-is (MarksToo-wild done c.args.marks.now c.loop-reference.marks r w.if-place-marks.false c.loop-reference.invariant)
     ])

@@ -1,5 +1,5 @@
 use Rattle.std.proofs.Common.{take}
-use Rattle.pol_nogood.specs.Trims.{MarksToo}
+use Rattle.pol_nogood.specs.Marks.{MarksToo}
 use Rattle.pol_nogood.proofs.trimming.mark_earlier.Given as goal
 
 -- the references so far are marked

@@ -7,9 +7,9 @@ use Rattle.pol_nogood.proofs.trimming.mark_needed.Goals.{in-Some, in_default}
 
 pub loop-s-init : goal.loop-s-init
 loop-s-init c = rw c.len-s.ensures.steps (elim c.match-last_mut.branch [
-      in-Some w ↦ rw w.marks-is (AreMarksFrom-last c.args.log.now c.args.marks.now c.requires.as_many c.requires.unmarked (grind (arith, w.in-Some.ensures.item.0)))
-    | in_default w ↦ rw w.marks-is (AreMarksFrom-none c.args.log.now c.args.marks.now c.requires.as_many (grind (arith, w.in_default.ensures.item.0)))
-    ])
+  | in-Some w ↦ rw w.marks-is (AreMarksFrom-last c.args.log.now c.args.marks.now c.requires.as_many c.requires.unmarked (grind (arith, w.in-Some.ensures.item.0)))
+  | in_default w ↦ rw w.marks-is (AreMarksFrom-none c.args.log.now c.args.marks.now c.requires.as_many (grind (arith, w.in_default.ensures.item.0)))
+])
 
 pub loop-s-preserved-then-marks-s : goal.loop-s-preserved-then-marks-s
 loop-s-preserved-then-marks-s c =
