@@ -1,0 +1,4 @@
+pub mod Ranks
+pub mod Stores
+pub mod Contradictions
+pub mod Sweeps
