@@ -11,7 +11,8 @@ use Rattle.pol_nogood.specs.Nogoods.{Pair, IsPair, IsNogood, IsContained}
 use Rattle.pol_nogood.specs.Logs.{StepView}
 use Rattle.pol_strong.specs.Sweeps.{AreBeside, AreCleared, IsLess}
 use Rattle.pol_base.proofs.MemberLemmas.{Contains-cons_cases, Contains-nil, AllPairs-nil}
-use Rattle.pol_strong.specs.Stores.{pair_of, IsSmall}
+use Rattle.pol_strong.specs.Stores.{pair_of}
+use Rattle.pol_strong.specs.Finished.{IsSmall}
 use Rattle.pol_strong.proofs.StoreLemmas.{IsNogood-remove}
 
 pub less_trans : (d : ℕ) (a b c : List ℕ) → IsLess d a b → IsLess d b c → IsLess d a c

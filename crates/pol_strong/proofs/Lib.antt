@@ -5,3 +5,5 @@ pub mod StoreLemmas
 pub mod BesideLemmas
 pub mod OpenLemmas
 pub mod SweepLemmas
+pub mod InsertLemmas
+pub mod PartLemmas

@@ -11,9 +11,11 @@ use Rattle.std.proofs.lemmas.List.Elements.{All-nil, All-cons, All-contains, Con
 use Rattle.pol_nogood.specs.Nogoods.{Pair, IsPair, IsNogood, IsContained}
 use Rattle.pol_nogood.specs.Logs.{StepView, value_case, nogood_at, no_step}
 use Rattle.pol_strong.specs.Contradictions.{IsContradicted}
-use Rattle.pol_strong.specs.Sweeps.{IsOpen, AreBeside}
+use Rattle.pol_strong.specs.Contradictions.{IsOpen}
+use Rattle.pol_strong.specs.Sweeps.{AreBeside}
 use Rattle.pol_base.proofs.MemberLemmas.{Contains-cons_cases, Contains-nil}
-use Rattle.pol_strong.specs.Stores.{pair_of, IsSmall}
+use Rattle.pol_strong.specs.Stores.{pair_of}
+use Rattle.pol_strong.specs.Finished.{IsSmall}
 use Rattle.pol_base.proofs.BitLemmas.{set_at}
 
 -- numbers that are all 0, or one that is not
@@ -60,7 +62,7 @@ module _ (n d : ℕ) (front : List Pair) (v a : ℕ) (apart : All (λ p. p.varia
       by (inr none) = absurd (Contains-nil q none)
 
   -- a pair of another variable is in the front
-  inner : (q : Pair) → Contains (front ++ value_case v a) q → q.variable ≢ v → Contains front q
+  pub inner : (q : Pair) → Contains (front ++ value_case v a) q → q.variable ≢ v → Contains front q
   inner q inside other = by (Contains-append_cases front (p ∷ []) q inside)
     where
       by : Contains front q ⊎ Contains (p ∷ []) q → Contains front q
@@ -68,7 +70,7 @@ module _ (n d : ℕ) (front : List Pair) (v a : ℕ) (apart : All (λ p. p.varia
       by (inr last) = absurd (other (ap (λ (r : Pair). r.variable) (sym (is_last q last))))
 
   -- and one of this variable is this pair
-  outer : (q : Pair) → Contains (front ++ value_case v a) q → q.variable ≡ v → p ≡ q
+  pub outer : (q : Pair) → Contains (front ++ value_case v a) q → q.variable ≡ v → p ≡ q
   outer q inside same = by (Contains-append_cases front (p ∷ []) q inside)
     where
       by : Contains front q ⊎ Contains (p ∷ []) q → p ≡ q
@@ -76,7 +78,7 @@ module _ (n d : ℕ) (front : List Pair) (v a : ℕ) (apart : All (λ p. p.varia
       by (inr last) = is_last q last
 
   -- without its pair of this variable the nogood is in the front
-  rest_inner : (nogood : List Pair) (i : ℕ) → IsNogood n d nogood → i < length nogood → (pair_of nogood i).variable ≡ v → IsContained nogood (front ++ value_case v a) → IsContained (remove nogood i) front
+  pub rest_inner : (nogood : List Pair) (i : ℕ) → IsNogood n d nogood → i < length nogood → (pair_of nogood i).variable ≡ v → IsContained nogood (front ++ value_case v a) → IsContained (remove nogood i) front
   rest_inner nogood i is inside same within = λ k e less. by k e (cases_lt k i) (omega (arith, length-remove nogood i inside))
     where
       at : (j : ℕ) (e : Pair) → j < length nogood → j ≢ i → Contains front (get_or nogood j e)
@@ -112,4 +114,4 @@ pub open_from_mask : (n d most v : ℕ) (log : List StepView) (front : List Pair
 open_from_mask n d most v log front masks small inside full apart beside free = by (some_value d (get_or masks v 0) (beside.below v 0 inside) full)
   where
     by : (a : ℕ) × (a < d) × IsBitSet (get_or masks v 0) a → IsOpen d log front v
-    by (a, low, bit) = record { value = a; low = low; free = value_open n d front v a apart most log masks small beside bit free }
+    by (a, low, bit) = record { value = a; below = low; free = value_open n d front v a apart most log masks small beside bit free }

@@ -11,7 +11,8 @@ use Rattle.pol_nogood.specs.Nogoods.{Pair, IsPair, IsNogood}
 use Rattle.pol_nogood.specs.Logs.{StepView, nogood_at, no_step}
 use Rattle.pol_nogood.proofs.LogMaking.{nogood_at-append, nogood_at-push}
 use Rattle.pol_strong.specs.Ranks.{rank_of}
-use Rattle.pol_strong.specs.Stores.{pair_of, IsSmall, IsIndex, IsCleared, IsFilter, IsStore, Clears, mask_place}
+use Rattle.pol_strong.specs.Stores.{pair_of, IsIndex, IsCleared, IsFilter, IsStore, Clears, mask_place}
+use Rattle.pol_strong.specs.Finished.{IsSmall}
 use Rattle.pol_strong.proofs.RankLemmas.{rank_inside, rank_same}
 
 pub IsNogood-remove : (n d : ℕ) (nogood : List Pair) (i : ℕ) → i < length nogood → IsNogood n d nogood → IsNogood n d (remove nogood i)

@@ -1,18 +1,30 @@
 -- Deletions one after another, and what a sweep leaves.
 use Rattle.std.proofs.Common.{◌≡◌, ◌≢◌, ℕ, suc, zero, ◌+◌, ◌-◌, ◌<◌, ◌≤◌, ◌⊎◌, inl, inr, List, [], ◌∷◌, ◌++◌, length, get_or, All, refl, sym, ap, ◌∙◌, subst, arith, append-nil, length-append}
+use Rattle.std.specs.Prelude.{⊤}
 use Rattle.std.proofs.lemmas.Bool.{cases_eq}
 use Rattle.std.proofs.lemmas.List.{length_push, append_assoc, get_or-append_right}
 use Rattle.std.proofs.lemmas.List.Elements.{All-head, All-tail, All-push, All-weaker, All-contains, Contains-append_left, Contains-append_right}
 use Rattle.pol_relation.specs.Relations.{LanguageView}
 use Rattle.pol_relation.specs.Instances.{InstanceView}
 use Rattle.pol_nogood.specs.Nogoods.{Pair, IsPair, IsNogood, IsContained}
-use Rattle.pol_nogood.specs.Logs.{StepView, value_case, nogood_at, FitsMost, no_step, value_cases}
+use Rattle.pol_nogood.specs.Logs.{Basis, StepView, value_case, nogood_at, FitsMost, no_step, value_cases}
 use Rattle.pol_nogood.specs.ValidLogs.{HasReferences, IsValidStep}
 use Rattle.pol_nogood.proofs.LogMaking.{variable_step_of, IsContained-left, IsContained-itself, valid_push, variable_step, FitsMost-push}
 use Rattle.pol_nogood.proofs.Counting.{few_steps, count_more, three_pairs}
+use Rattle.pol_strong.specs.Finished.{RefersByVariable}
 use Rattle.pol_strong.specs.Contradictions.{IsContradicted}
-use Rattle.pol_strong.specs.Sweeps.{AreOpen, AreBeside, IsDeleting, Deletes, AllOpenFrom, OpenWith, OpenBefore, OpenBelow, OpenHere}
+use Rattle.pol_strong.specs.Finished.{RefersByVariable}
+use Rattle.pol_strong.specs.Contradictions.{AreOpen}
+use Rattle.pol_strong.specs.Sweeps.{AreBeside, IsDeleting, Deletes, AllOpenFrom, OpenWith, OpenBefore, OpenBelow, OpenHere}
 use Rattle.pol_strong.specs.Stores.{StoreView, with_step}
+
+-- a step by a variable is not one by a constraint
+abbrev IsByVariable : Basis → Type 0
+IsByVariable (Basis.ByConstraint c) = ⊥
+IsByVariable (Basis.ByVariable v) = ⊤
+
+other_basis : (v c : ℕ) → Basis.ByVariable v ≡ Basis.ByConstraint c → ⊥
+other_basis v c same = subst IsByVariable same tt
 
 pub contradicted_more : (log : List StepView) (front more : List Pair) → IsContradicted log front → IsContradicted log (front ++ more)
 contradicted_more log front more found = record { step = found.step; known = found.known; within = IsContained-left (nogood_at log found.step) front more found.within }
@@ -98,6 +110,7 @@ module _ (lang : LanguageView) (inst : InstanceView) where
           some = is.some;
           valid = valid_push lang inst old.log step is.valid (variable_step lang inst old.log v front references known apart nogood_is referred);
           fits = FitsMost-push old.most old.log step is.fits small other;
+          by_variables = All-push RefersByVariable old.log step is.by_variables (λ c by_constraint. absurd (other_basis v c by_constraint));
           nonempty = All-push (λ (s : StepView). s.nogood ≢ []) old.log step is.nonempty (λ none. let long : length front ≡ 0 = ap length none in omega arith);
         };
         most = refl;

@@ -1,4 +1,8 @@
+pub mod Parts
+pub mod Families
+pub mod Contradictions
+pub mod Finished
 pub mod Ranks
 pub mod Stores
-pub mod Contradictions
 pub mod Sweeps
+pub mod Insertions

@@ -4,6 +4,7 @@ use Rattle.std.specs.List.{remove}
 use Rattle.pol_base.specs.Tuples.{IsDomain}
 use Rattle.pol_nogood.specs.Nogoods.{Pair, IsNogood}
 use Rattle.pol_nogood.specs.Logs.{StepView, nogood_at}
+use Rattle.pol_strong.specs.Finished.{IsSmall}
 use Rattle.pol_strong.specs.Ranks.{rank_of}
 
 pub record StoreView : Type 0 where
@@ -20,11 +21,6 @@ no_pair = record { variable = 0; value = 0 }
 
 abbrev pub pair_of : List Pair → ℕ → Pair
 pair_of nogood i = slice_index_or nogood i no_pair
-
--- a nogood that is kept in the store
-pub record IsSmall (n d most : ℕ) (nogood : List Pair) : Type 0 where
-  pub is_nogood : IsNogood n d nogood
-  pub few : length nogood ≤ most
 
 -- at the number of each step's nogood stands the number of the step, plus 1; all else is 0
 pub record IsIndex (n d : ℕ) (log : List StepView) (index : List ℕ) : Type 0 where

@@ -6,18 +6,9 @@ use Rattle.pol_relation.specs.Instances.{InstanceView}
 use Rattle.pol_nogood.specs.Nogoods.{Pair, IsContained, IsNogood}
 use Rattle.pol_nogood.specs.Logs.{StepView, value_case, nogood_at, FitsMost}
 use Rattle.pol_nogood.specs.ValidLogs.{AreValid}
-use Rattle.pol_strong.specs.Contradictions.{IsContradicted}
+use Rattle.pol_strong.specs.Contradictions.{IsContradicted, AreOpen}
+use Rattle.pol_strong.specs.Finished.{RefersByVariable}
 use Rattle.pol_strong.specs.Stores.{StoreView, pair_of}
-
--- a value with which the nogood contains none of the log
-pub record IsOpen (d : ℕ) (log : List StepView) (nogood : List Pair) (v : ℕ) : Type 0 where
-  pub value : ℕ
-  pub low : value < d
-  pub free : IsContradicted log (nogood ++ value_case v value) → ⊥
-
--- the nogood has an open value for each variable that it does not name
-abbrev pub AreOpen : (n d : ℕ) → List StepView → List Pair → Type 0
-AreOpen n d log nogood = (v : ℕ) → v < n → All (λ p. p.variable ≢ v) nogood → IsOpen d log nogood v
 
 -- masks without the values that are deleted beside a part of the front
 pub record AreBeside (d : ℕ) (log : List StepView) (front : List Pair) (masks : List ℕ) : Type 0 where
@@ -40,6 +31,7 @@ pub record IsDeleting (lang : LanguageView) (inst : InstanceView) (s : StoreView
   pub some : 2 ≤ s.most
   pub valid : AreValid lang inst s.log
   pub fits : FitsMost s.most s.log
+  pub by_variables : All RefersByVariable s.log
   pub nonempty : All (λ s. s.nogood ≢ []) s.log
 
 -- more is deleted, or nothing, and then what is said of the log holds

@@ -2,8 +2,11 @@
 //! its deletions.
 #![tactic(auto)]
 
+mod closing;
 mod masks;
 mod nogoods;
+mod parts;
 mod store;
+mod sweeping;
 
 pub use store::Store;

@@ -2,6 +2,8 @@ ghost use Rattle.std.specs.Prelude.{◌≡◌, ◌≢◌, ◌+◌, ◌-◌, ◌<
 ghost use Rattle.std.specs.Bool.{OnTrue, OnFalse};
 ghost use Rattle.std.specs.List.{remove};
 ghost use Rattle.pol_nogood.specs.Logs.{value_case};
+ghost use Rattle.pol_strong.specs.Stores.{pair_of};
+ghost use Rattle.pol_strong.specs.Insertions.{with_pair};
 
 use pol_nogood::Nogood;
 
@@ -79,4 +81,33 @@ pub(crate) fn names(nogood: &Nogood, v: u32) -> bool
         }
     }
     false
+}
+
+/// How many pairs of lower variables stand first.
+fn lower_pairs(nogood: &Nogood, v: u32) -> u32
+    ensures known { result ≤ length nogood.now }
+    ensures below { All (λ p. p.variable ≤ v) (take result nogood.now) }
+    ensures above { result < length nogood.now → v < (pair_of nogood.now result).variable }
+{
+    for i in 0..nogood.len() {
+        let (variable, _) = nogood.pair(i);
+        if v < variable {
+            return i;
+        }
+    }
+    nogood.len()
+}
+
+/// The nogood with the pair in its place.
+pub(crate) fn with_pair(nogood: &Nogood, v: u32, a: u8) -> Nogood
+    requires room { length nogood.now < 3 }
+    ensures more { result ≡ with_pair (record { variable = v; value = a }) nogood.now }
+{
+    let count = nogood.len();
+    let place = lower_pairs(nogood, v);
+    let mut more = Nogood::new();
+    push_pairs(&mut more, nogood, 0, place);
+    more.push(v, a);
+    push_pairs(&mut more, nogood, place, count);
+    more
 }

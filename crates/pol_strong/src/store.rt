@@ -6,7 +6,8 @@ ghost use Rattle.pol_nogood.specs.Nogoods.{IsNogood};
 ghost use Rattle.pol_nogood.specs.Steps.{step_named};
 ghost use Rattle.pol_strong.specs.Sweeps.{IsLess, AreCleared};
 ghost use Rattle.pol_strong.specs.Ranks.{rank_of, code_of};
-ghost use Rattle.pol_strong.specs.Stores.{with_step, pair_of, IsSmall, IsCleared, Clears};
+ghost use Rattle.pol_strong.specs.Stores.{with_step, pair_of, IsCleared, Clears};
+ghost use Rattle.pol_strong.specs.Finished.{IsSmall};
 
 use crate::masks::meet;
 use crate::nogoods::others;
@@ -153,8 +154,10 @@ impl Store {
         meet(masks, &self.filter, rank * ROW);
     }
 
+    /// How many pairs a nogood has at most.
     pub fn most(&self) -> u32
         ensures most { result ≡ self.now.most }
+        ensures some { 1 ≤ result }
         ensures few { result ≤ 3 }
         ensures small { All (λ s. IsSmall self.now.variables self.now.domain self.now.most s.nogood) self.now.log }
     {

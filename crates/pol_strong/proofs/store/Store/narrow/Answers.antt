@@ -3,7 +3,8 @@ use Rattle.std.specs.Prelude.{IsBitSet}
 use Rattle.std.specs.List.{remove}
 use Rattle.pol_nogood.specs.Nogoods.{Pair}
 use Rattle.pol_nogood.specs.Logs.{StepView}
-use Rattle.pol_strong.specs.Stores.{StoreView, IsSmall, pair_of}
+use Rattle.pol_strong.specs.Stores.{StoreView, pair_of}
+use Rattle.pol_strong.specs.Finished.{IsSmall}
 use Rattle.pol_strong.proofs.StoreLemmas.{masks_inside, masks_cleared}
 use Rattle.pol_strong.proofs.RankLemmas.{rank_few}
 use Rattle.pol_strong.proofs.store.Store.narrow.Goals as goal

@@ -5,7 +5,8 @@ use Rattle.pol_nogood.specs.Nogoods.{Pair}
 use Rattle.pol_nogood.specs.Logs.{StepView}
 use Rattle.pol_nogood.specs.Steps.{step_named}
 use Rattle.pol_strong.specs.Ranks.{rank_of}
-use Rattle.pol_strong.specs.Stores.{StoreView, IsSmall, IsCleared, Clears}
+use Rattle.pol_strong.specs.Stores.{StoreView, IsCleared, Clears}
+use Rattle.pol_strong.specs.Finished.{IsSmall}
 use Rattle.pol_strong.proofs.StoreLemmas.{store_place, other_place_inside, store_put}
 use Rattle.pol_strong.proofs.store.Store.put.Goals as goal
 
