@@ -1,0 +1,5 @@
+pub mod Choosing
+pub mod ImagePlaces
+pub mod Variables
+pub mod Decomposition
+pub mod Extension

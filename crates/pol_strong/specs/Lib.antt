@@ -1,0 +1,4 @@
+pub mod Parts
+pub mod Families
+pub mod Contradictions
+pub mod Finished

@@ -1,0 +1,2 @@
+//! Strong consistency: instances over a language with a near unanimity operation.
+#![tactic(auto)]
