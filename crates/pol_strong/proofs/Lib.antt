@@ -3,3 +3,4 @@ pub mod ImagePlaces
 pub mod Variables
 pub mod Decomposition
 pub mod Extension
+pub mod KeptParts
