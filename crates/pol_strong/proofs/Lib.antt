@@ -1,3 +1,9 @@
+pub mod Choosing
+pub mod ImagePlaces
+pub mod Variables
+pub mod Decomposition
+pub mod Extension
+pub mod KeptParts
 pub mod MaskLemmas
 pub mod PushLemmas
 pub mod RankLemmas

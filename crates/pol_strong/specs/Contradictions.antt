@@ -1,7 +1,7 @@
 -- Nogoods that contain a nogood of a log, and the values that are open beside a nogood.
-use Rattle.std.specs.Prelude.{◌≡◌, ◌≢◌, ◌<◌, ℕ, List, ◌++◌, length, All, Contains, Bool, true}
+use Rattle.std.specs.Prelude.{◌≡◌, ◌≢◌, ◌<◌, ℕ, List, ◌++◌, length, All, Contains, true}
 use Rattle.pol_relation.specs.Relations.{LanguageView, rows_of}
-use Rattle.pol_relation.specs.Instances.{InstanceView, ConstraintView}
+use Rattle.pol_relation.specs.Instances.{ConstraintView}
 use Rattle.pol_nogood.specs.Nogoods.{Pair, IsContained}
 use Rattle.pol_nogood.specs.Logs.{StepView, nogood_at, value_case, is_case}
 

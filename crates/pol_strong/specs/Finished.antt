@@ -1,5 +1,5 @@
 -- Logs of deletions to which no further nogood has to be added, and the operations for which these decide an instance.
-use Rattle.std.specs.Prelude.{◌≡◌, ◌≤◌, ℕ, ◌+◌, List, [], length, All}
+use Rattle.std.specs.Prelude.{◌≡◌, ◌≢◌, ◌≤◌, ℕ, ◌+◌, List, [], length, All}
 use Rattle.pol_relation.specs.Relations.{LanguageView}
 use Rattle.pol_relation.specs.Instances.{InstanceView}
 use Rattle.pol_optable.specs.Operations.{Operation, IsOperation, IsPolymorphism}
@@ -46,5 +46,5 @@ pub record IsFinished (lang : LanguageView) (inst : InstanceView) (most : ℕ) (
   pub valid : AreValid lang inst log
   pub fits : FitsMost most log
   pub by_variables : All RefersByVariable log
-  pub nonempty : ¬ IsContradicted log []
+  pub nonempty : All (λ s. s.nogood ≢ []) log
   pub settled : AllSettled lang inst most log
