@@ -1,6 +1,6 @@
 -- Deletions one after another, and what a sweep leaves.
 use Rattle.std.proofs.Common.{◌≡◌, ◌≢◌, ℕ, suc, zero, ◌+◌, ◌-◌, ◌<◌, ◌≤◌, ◌⊎◌, inl, inr, List, [], ◌∷◌, ◌++◌, length, get_or, All, refl, sym, ap, ◌∙◌, subst, arith, append-nil, length-append}
-use Rattle.std.specs.Prelude.{⊤}
+use Rattle.std.specs.Prelude.{⊤, Result, Ok, Err, OnOk}
 use Rattle.std.proofs.lemmas.Bool.{cases_eq}
 use Rattle.std.proofs.lemmas.List.{length_push, append_assoc, get_or-append_right}
 use Rattle.std.proofs.lemmas.List.Elements.{All-head, All-tail, All-push, All-weaker, All-contains, Contains-append_left, Contains-append_right}
@@ -9,7 +9,7 @@ use Rattle.pol_relation.specs.Instances.{InstanceView}
 use Rattle.pol_nogood.specs.Nogoods.{Pair, IsPair, IsNogood, IsContained}
 use Rattle.pol_nogood.specs.Logs.{Basis, StepView, value_case, nogood_at, FitsMost, no_step, value_cases}
 use Rattle.pol_nogood.specs.ValidLogs.{HasReferences, IsValidStep}
-use Rattle.pol_nogood.proofs.LogMaking.{variable_step_of, IsContained-left, IsContained-itself, valid_push, variable_step, FitsMost-push}
+use Rattle.pol_nogood.proofs.LogMaking.{nogood_at-append, variable_step_of, IsContained-left, IsContained-itself, valid_push, variable_step, FitsMost-push}
 use Rattle.pol_nogood.proofs.Counting.{few_steps, count_more, three_pairs}
 use Rattle.pol_strong.specs.Finished.{RefersByVariable}
 use Rattle.pol_strong.specs.Contradictions.{IsContradicted}
@@ -32,9 +32,17 @@ contradicted_more log front more found = record { step = found.step; known = fou
 pub contradicted_by : (log : List StepView) (front : List Pair) (s : ℕ) → s < length log → nogood_at log s ≡ front → IsContradicted log front
 contradicted_by log front s known same = record { step = s; known = known; within = subst (λ (pairs : List Pair). IsContained pairs front) (sym same) (IsContained-itself front) }
 
+-- what is contradicted stays so where the log grows
+pub contradicted_push : (log : List StepView) (s : StepView) (nogood : List Pair) → IsContradicted log nogood → IsContradicted (log ++ s ∷ []) nogood
+contradicted_push log s nogood found = record {
+  step = found.step;
+  known = omega (arith, found.known, length_push log s);
+  within = subst (λ (some : List Pair). IsContained some nogood) (sym (nogood_at-append log (s ∷ []) found.step found.known)) found.within;
+}
+
 -- what goes on from a contradicted front is contradicted
 pub open_contradicted : (n d : ℕ) (front : List Pair) (low most : ℕ) (log : List StepView) → IsContradicted log front → AllOpenFrom n d front low most log
-open_contradicted n d front low most log found = λ more is from few free. absurd (free (contradicted_more log front more found))
+open_contradicted n d front low most log found = λ more is some from few free. absurd (free (contradicted_more log front more found))
 
 pub open_below : (n d : ℕ) (front : List Pair) (x a most : ℕ) (log : List StepView) → OpenBelow n d front x a most log → OpenWith n d front x a most log → OpenBelow n d front x (a + 1) most log
 open_below n d front x a most log before last = λ b less. by b less (cases_eq b a)
@@ -52,14 +60,14 @@ open_before n d front low x e most log all before last = λ y a from less below.
 
 -- the front itself, and all that goes on with some variable
 pub open_all : (n d : ℕ) (front : List Pair) (low x most : ℕ) (log : List StepView) → n ≤ x → OpenHere n d front log → OpenBefore n d front low x most log → AllOpenFrom n d front low most log
-open_all n d front low x most log past here before [] is from few free = subst (AreOpen n d log) (sym (append-nil front)) (here (λ found. free (subst (IsContradicted log) (sym (append-nil front)) found)))
-open_all n d front low x most log past here before (p ∷ more) is from few free =
+open_all n d front low x most log past here before [] is some from few free = subst (AreOpen n d log) (sym (append-nil front)) (here (omega (arith, length-append {A = Pair} front [])) (λ found. free (subst (IsContradicted log) (sym (append-nil front)) found)))
+open_all n d front low x most log past here before (p ∷ more) is some from few free =
     let same : (front ++ p ∷ []) ++ more ≡ front ++ p ∷ more = append_assoc front (p ∷ []) more in
     let known : IsPair n d p = All-contains (IsPair n d) (front ++ p ∷ more) p is.pairs (Contains-append_right front (p ∷ more) p (0, omega arith, refl)) in
     let first : low ≤ p.variable = All-head (λ (q : Pair). low ≤ q.variable) p more from in
     let variable : p.variable < n = known.variable_known in
     subst (AreOpen n d log) same
-    (before p.variable p.value first (omega arith) known.value_known more (subst (IsNogood n d) (sym same) is) (later is) (omega arith) (λ found. free (subst (IsContradicted log) same found)))
+    (before p.variable p.value first (omega arith) known.value_known more (subst (IsNogood n d) (sym same) is) (omega (arith, some, ap length same)) (later is) (omega arith) (λ found. free (subst (IsContradicted log) same found)))
   where
     later : IsNogood n d (front ++ p ∷ more) → All (λ q. p.variable + 1 ≤ q.variable) more
     later is = λ k e inside.
@@ -73,10 +81,10 @@ open_all n d front low x most log past here before (p ∷ more) is from few free
 module _ (lang : LanguageView) (inst : InstanceView) where
   pub deletes_nothing : (Settled : List StepView → Type 0) (old new : StoreView) → IsDeleting lang inst old → new ≡ old → Settled old.log → Deletes lang inst Settled old new
   deletes_nothing Settled old new deleting same settled =
-      subst (λ (s : StoreView). Deletes lang inst Settled old s) (sym same) (record { deleting = deleting; most = refl; grown = omega arith; same = λ _. refl; settled = λ _. settled })
+      subst (λ (s : StoreView). Deletes lang inst Settled old s) (sym same) (record { deleting = deleting; most = refl; grown = omega arith; kept = λ nogood found. found; same = λ _. refl; settled = λ _. settled })
 
   pub deletes_weaker : (P Q : List StepView → Type 0) (old new : StoreView) → Deletes lang inst P old new → (P old.log → Q old.log) → Deletes lang inst Q old new
-  deletes_weaker P Q old new is weaker = record { deleting = is.deleting; most = is.most; grown = is.grown; same = is.same; settled = λ short. subst Q (sym (is.same short)) (weaker (subst P (is.same short) (is.settled short))) }
+  deletes_weaker P Q old new is weaker = record { deleting = is.deleting; most = is.most; grown = is.grown; kept = is.kept; same = is.same; settled = λ short. subst Q (sym (is.same short)) (weaker (subst P (is.same short) (is.settled short))) }
 
   pub deletes_both : (P Q R : List StepView → Type 0) (a b c : StoreView) → Deletes lang inst P a b → Deletes lang inst Q b c → ((log : List StepView) → P log → Q log → R log) → Deletes lang inst R a c
   deletes_both P Q R a b c first second both =
@@ -86,6 +94,7 @@ module _ (lang : LanguageView) (inst : InstanceView) where
         deleting = second.deleting;
         most = second.most ∙ first.most;
         grown = omega arith;
+        kept = λ nogood found. second.kept nogood (first.kept nogood found);
         same = λ short. second.same (omega arith) ∙ first.same (omega arith);
         settled = λ short. both c.log (subst P (sym (second.same (omega arith))) (first.settled (omega arith))) (second.settled (omega arith));
       }
@@ -115,6 +124,12 @@ module _ (lang : LanguageView) (inst : InstanceView) where
         };
         most = refl;
         grown = omega arith;
+        kept = contradicted_push old.log step;
         same = λ short. absurd (omega arith);
         settled = λ short. absurd (omega arith);
       })
+
+-- what follows from what a clause says of a success
+pub OnOk_then : {T E P Q : Type 0} (r : Result T E) → OnOk r P → (P → Q) → OnOk r Q
+OnOk_then (Ok x) here then = then here
+OnOk_then (Err e) here then = tt

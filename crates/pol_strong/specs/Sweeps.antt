@@ -7,7 +7,7 @@ use Rattle.pol_nogood.specs.Nogoods.{Pair, IsContained, IsNogood}
 use Rattle.pol_nogood.specs.Logs.{StepView, value_case, nogood_at, FitsMost}
 use Rattle.pol_nogood.specs.ValidLogs.{AreValid}
 use Rattle.pol_strong.specs.Contradictions.{IsContradicted, AreOpen}
-use Rattle.pol_strong.specs.Finished.{RefersByVariable}
+use Rattle.pol_strong.specs.Finished.{IsSmall, RefersByVariable}
 use Rattle.pol_strong.specs.Stores.{StoreView, pair_of}
 
 -- masks without the values that are deleted beside a part of the front
@@ -39,12 +39,21 @@ pub record Deletes (lang : LanguageView) (inst : InstanceView) (Settled : List S
   pub deleting : IsDeleting lang inst new
   pub most : new.most ≡ old.most
   pub grown : length old.log ≤ length new.log
+  pub kept : (nogood : List Pair) → IsContradicted old.log nogood → IsContradicted new.log nogood
   pub same : length new.log ≤ length old.log → new.log ≡ old.log
   pub settled : length new.log ≤ length old.log → Settled new.log
 
--- all that goes on from the front, by at most so many pairs of variables from low on, contains a deleted nogood or has open values
+-- all that goes on from the front, by at most so many pairs of variables from low on, and is not empty, contains a deleted
+-- nogood or has open values
 abbrev pub AllOpenFrom : (n d : ℕ) → (front : List Pair) → (low most : ℕ) → List StepView → Type 0
-AllOpenFrom n d front low most log = (more : List Pair) → IsNogood n d (front ++ more) → All (λ p. low ≤ p.variable) more → length more ≤ most → (IsContradicted log (front ++ more) → ⊥) → AreOpen n d log (front ++ more)
+AllOpenFrom n d front low most log =
+    (more : List Pair)
+    → IsNogood n d (front ++ more)
+    → 1 ≤ length (front ++ more)
+    → All (λ p. low ≤ p.variable) more
+    → length more ≤ most
+    → ¬ IsContradicted log (front ++ more)
+    → AreOpen n d log (front ++ more)
 
 -- the same for what goes on with this variable and value
 abbrev pub OpenWith : (n d : ℕ) → (front : List Pair) → (x a most : ℕ) → List StepView → Type 0
@@ -58,6 +67,15 @@ OpenBefore n d front low x most log = (y a : ℕ) → low ≤ y → y < x → a 
 abbrev pub OpenBelow : (n d : ℕ) → (front : List Pair) → (x a most : ℕ) → List StepView → Type 0
 OpenBelow n d front x a most log = (b : ℕ) → b < a → OpenWith n d front x b most log
 
--- the front contains a deleted nogood, or has open values
+-- the front is empty, contains a deleted nogood, or has open values
 abbrev pub OpenHere : (n d : ℕ) → List Pair → List StepView → Type 0
-OpenHere n d front log = (IsContradicted log front → ⊥) → AreOpen n d log front
+OpenHere n d front log = 1 ≤ length front → ¬ IsContradicted log front → AreOpen n d log front
+
+-- so it is with all nogoods of at most so many pairs but the empty one
+abbrev pub AllOpen : (n d most : ℕ) → List StepView → Type 0
+AllOpen n d most log =
+    (nogood : List Pair)
+    → IsSmall n d most nogood
+    → 1 ≤ length nogood
+    → ¬ IsContradicted log nogood
+    → AreOpen n d log nogood

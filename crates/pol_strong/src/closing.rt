@@ -88,7 +88,7 @@ fn delete_front(
     Ok(true)
 }
 
-/// Deletes the front where a variable has no open value beside it.
+/// Deletes the front, unless it is empty, where a variable has no open value beside it.
 pub(crate) fn delete_by_variable(
     alloc: Global,
     lang: &Language,
@@ -101,10 +101,12 @@ pub(crate) fn delete_by_variable(
     requires deleting { IsDeleting lang.now inst.now store.old }
     requires nogood { IsNogood (length inst.now.variables) lang.now.domain front.now }
     requires size { length front.now ≤ store.old.most }
-    requires some { 1 ≤ length front.now }
     ensures deletes { OnOk result (Deletes lang.now inst.now (λ log. AreBeside lang.now.domain log front.now masks.now → OpenHere (length inst.now.variables) lang.now.domain front.now log) store.old store.new) }
     ensures deleted { IfOk result (λ b. IsTrue b → length store.old.log < length store.new.log) }
 {
+    if front.is_empty() {
+        return Ok(false);
+    }
     let d = lang.domain().size();
     for v in 0..inst.variables() {
         if let Some(refs) = closing_references(alloc, store, front, masks, v, d)? {

@@ -70,7 +70,6 @@ pub(crate) fn sweep(
 ) -> Result<(), NoMemory>
     requires few { length inst.now.variables ≤ 40 }
     requires deleting { IsDeleting lang.now inst.now store.old }
-    requires some { 1 ≤ length front.now }
     requires size { length front.now + most ≡ store.old.most }
     requires nogood { IsNogood (length inst.now.variables) lang.now.domain front.now }
     requires before { All (λ p. p.variable < low) front.now }

@@ -11,7 +11,7 @@ put-requires-clause-room c =
 pub returns-in-Some-clause-deletes : goal.returns-in-Some-clause-deletes
 returns-in-Some-clause-deletes c =
     deletes_nothing c.args.lang.now c.args.inst.now (OpenHere (length c.args.inst.now.variables) c.args.lang.now.domain c.args.front.now) c.args.store.now c.args.store.now c.requires.deleting refl
-    (λ free. absurd (free (contradicted_by c.args.store.now.log c.args.front.now c.in-Some._step c.in-Some.ensures.known c.in-Some.ensures.found)))
+    (λ some free. absurd (free (contradicted_by c.args.store.now.log c.args.front.now c.in-Some._step c.in-Some.ensures.known c.in-Some.ensures.found)))
 
 pub returns-clause-deletes : goal.returns-clause-deletes
 returns-clause-deletes c =
