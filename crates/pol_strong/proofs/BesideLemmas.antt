@@ -1,5 +1,5 @@
 -- Masks beside a front: what a further pair of the front clears.
-use Rattle.std.proofs.Common.{◌≡◌, ◌≢◌, ℕ, suc, zero, ◌+◌, ◌-◌, ◌<◌, ◌≤◌, ◌⊎◌, inl, inr, List, [], ◌∷◌, ◌++◌, length, get_or, All, AllPairs, Contains, refl, sym, ap, ◌∙◌, subst, arith}
+use Rattle.std.proofs.Common.{◌≡◌, ◌≢◌, ℕ, suc, zero, ◌+◌, ◌-◌, ◌^◌, ◌<◌, ◌≤◌, ◌⊎◌, inl, inr, List, [], ◌∷◌, ◌++◌, length, get_or, All, AllPairs, Contains, refl, sym, ap, ◌∙◌, subst, arith}
 use Rattle.std.specs.Prelude.{IsBitSet}
 use Rattle.std.specs.List.{remove}
 use Rattle.std.proofs.lemmas.List.{get_or_default, get_or_append_left, get_or_push, length_push}
@@ -109,3 +109,14 @@ two_more d log front p q i old new same less before last k inside = by (cases_eq
     by : (k ≡ i) ⊎ (k ≡ i → ⊥) → AreCleared log (get_or front k p ∷ p ∷ []) new
     by (inl here) = subst (λ (r : Pair). AreCleared log (r ∷ p ∷ []) new) (sym (ap (λ j. get_or front j p) here ∙ same)) last
     by (inr apart) = cleared_less d log (get_or front k p ∷ p ∷ []) old new less (before k (omega arith))
+
+contained_in_none : (part : List Pair) → IsContained part [] → part ≡ []
+contained_in_none [] within = refl
+contained_in_none (p ∷ part) within = absurd (Contains-nil p (within 0 p (omega arith)))
+
+-- beside the empty front
+pub beside_none : (d : ℕ) (log : List StepView) (old new : List ℕ) (none : List Pair) → IsLess d old new → All (λ m. m < 2 ^ d) old → none ≡ [] → AreCleared log none new → AreBeside d log [] new
+beside_none d log old new none less below empty cleared = record {
+  below = less.below below;
+  cleared = λ s e inside i known within here. cleared s e inside i known (contained_in_none (remove (get_or log s e).nogood i) within ∙ sym empty) here;
+}

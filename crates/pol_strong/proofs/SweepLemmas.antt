@@ -1,7 +1,7 @@
 -- Deletions one after another, and what a sweep leaves.
 use Rattle.std.proofs.Common.{◌≡◌, ◌≢◌, ℕ, suc, zero, ◌+◌, ◌-◌, ◌<◌, ◌≤◌, ◌⊎◌, inl, inr, List, [], ◌∷◌, ◌++◌, length, get_or, All, refl, sym, ap, ◌∙◌, subst, arith, append-nil, length-append}
 use Rattle.std.specs.Prelude.{⊤, Result, Ok, Err, OnOk}
-use Rattle.std.proofs.lemmas.Bool.{cases_eq}
+use Rattle.std.proofs.lemmas.Bool.{cases_eq, cases_lt}
 use Rattle.std.proofs.lemmas.List.{length_push, append_assoc, get_or-append_right}
 use Rattle.std.proofs.lemmas.List.Elements.{All-head, All-tail, All-push, All-weaker, All-contains, Contains-append_left, Contains-append_right}
 use Rattle.pol_relation.specs.Relations.{LanguageView}
@@ -10,12 +10,12 @@ use Rattle.pol_nogood.specs.Nogoods.{Pair, IsPair, IsNogood, IsContained}
 use Rattle.pol_nogood.specs.Logs.{Basis, StepView, value_case, nogood_at, FitsMost, no_step, value_cases}
 use Rattle.pol_nogood.specs.ValidLogs.{HasReferences, IsValidStep}
 use Rattle.pol_nogood.proofs.LogMaking.{nogood_at-append, variable_step_of, IsContained-left, IsContained-itself, valid_push, variable_step, FitsMost-push}
-use Rattle.pol_nogood.proofs.Counting.{few_steps, count_more, three_pairs}
+use Rattle.pol_nogood.proofs.Counting.{nogood_count, few_steps, count_more, three_pairs}
 use Rattle.pol_strong.specs.Finished.{RefersByVariable}
 use Rattle.pol_strong.specs.Contradictions.{IsContradicted}
 use Rattle.pol_strong.specs.Finished.{RefersByVariable}
 use Rattle.pol_strong.specs.Contradictions.{AreOpen}
-use Rattle.pol_strong.specs.Sweeps.{AreBeside, IsDeleting, Deletes, AllOpenFrom, OpenWith, OpenBefore, OpenBelow, OpenHere}
+use Rattle.pol_strong.specs.Sweeps.{AllOpen, AreBeside, IsDeleting, Deletes, AllOpenFrom, OpenWith, OpenBefore, OpenBelow, OpenHere}
 use Rattle.pol_strong.specs.Stores.{StoreView, with_step}
 
 -- a step by a variable is not one by a constraint
@@ -133,3 +133,29 @@ module _ (lang : LanguageView) (inst : InstanceView) where
 pub OnOk_then : {T E P Q : Type 0} (r : Result T E) → OnOk r P → (P → Q) → OnOk r Q
 OnOk_then (Ok x) here then = then here
 OnOk_then (Err e) here then = tt
+
+-- a sweep from the empty front comes to all nogoods
+pub open_from_none : (n d most : ℕ) (log : List StepView) → AllOpenFrom n d [] 0 most log → AllOpen n d most log
+open_from_none n d most log all = λ nogood small some free. all nogood small.is_nogood some (λ k e inside. omega arith) small.few free
+
+-- what is left to delete is less behind a sweep that deleted something
+pub fewer_left : (lang : LanguageView) (inst : InstanceView) (Settled : List StepView → Type 0) (old new : StoreView) → Deletes lang inst Settled old new → length new.log ≢ length old.log
+    → nogood_count lang.domain (length inst.variables) new.most - length new.log < nogood_count lang.domain (length inst.variables) old.most - length old.log
+fewer_left lang inst Settled old new is other =
+    let few : length new.log ≤ nogood_count lang.domain (length inst.variables) new.most = few_steps lang inst new.most new.log is.deleting.valid is.deleting.fits in
+    let same : nogood_count lang.domain (length inst.variables) new.most ≡ nogood_count lang.domain (length inst.variables) old.most = ap (nogood_count lang.domain (length inst.variables)) is.most in
+    less (length old.log) (length new.log) (nogood_count lang.domain (length inst.variables) new.most) (nogood_count lang.domain (length inst.variables) old.most) is.grown other few same (cases_eq (length new.log) (length old.log))
+  where
+    less : (a b m k : ℕ) → a ≤ b → b ≢ a → b ≤ m → m ≡ k → (b ≡ a) ⊎ (b ≡ a → ⊥) → m - b < k - a
+    less a b m k grown other few same (inl equal) = absurd (other equal)
+    less a b m k grown other few same (inr apart) = before (order a b grown apart)
+      where
+        order : (a b : ℕ) → a ≤ b → (b ≡ a → ⊥) → a < b
+        order a b grown apart = by_order (cases_lt a b)
+          where
+            by_order : (a < b) ⊎ (b ≤ a) → a < b
+            by_order (inl less) = less
+            by_order (inr more) = absurd (apart (omega arith))
+
+        before : a < b → m - b < k - a
+        before less = omega arith

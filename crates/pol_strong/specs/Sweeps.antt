@@ -79,3 +79,10 @@ AllOpen n d most log =
     → 1 ≤ length nogood
     → ¬ IsContradicted log nogood
     → AreOpen n d log nogood
+
+-- what the sweeps leave: the same of a longer log, in which no nogood but the empty one is left to delete by a variable
+pub record IsSwept (lang : LanguageView) (inst : InstanceView) (old new : StoreView) : Type 0 where
+  pub deleting : IsDeleting lang inst new
+  pub most : new.most ≡ old.most
+  pub kept : (nogood : List Pair) → IsContradicted old.log nogood → IsContradicted new.log nogood
+  pub open_all : AllOpen (length inst.variables) lang.domain new.most new.log

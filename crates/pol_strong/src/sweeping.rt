@@ -1,14 +1,14 @@
-ghost use Rattle.std.specs.Prelude.{◌≡◌, ◌≢◌, ◌+◌, ◌<◌, ◌≤◌, ◌++◌, length, All, OnOk, IfSome, IfNone};
+ghost use Rattle.std.specs.Prelude.{◌≡◌, ◌≢◌, ◌+◌, ◌<◌, ◌≤◌, [], ◌++◌, length, All, OnOk, IfSome, IfNone};
 ghost use Rattle.pol_nogood.specs.Nogoods.{IsNogood};
 ghost use Rattle.pol_nogood.specs.Logs.{value_case};
 ghost use Rattle.pol_strong.specs.Contradictions.{IsContradicted};
-ghost use Rattle.pol_strong.specs.Sweeps.{AreBeside, IsDeleting, Deletes, AllOpenFrom};
+ghost use Rattle.pol_strong.specs.Sweeps.{AreBeside, IsDeleting, Deletes, AllOpen, AllOpenFrom, IsSwept};
 
 use crate::closing::delete_by_variable;
 use crate::nogoods::{joined, one_pair, two_pairs};
 use crate::parts::reference;
 use crate::store::Store;
-use pol_base::{NoMemory, has_value};
+use pol_base::{Domain, NoMemory, full_mask, has_value};
 use pol_nogood::Nogood;
 use pol_relation::{Instance, Language};
 use std::alloc::Global;
@@ -90,4 +90,52 @@ pub(crate) fn sweep(
         }
     }
     Ok(())
+}
+
+/// The masks of the values that are not deleted alone.
+fn first_masks(store: &Store, d: Domain) -> [u8; 40]
+    requires domain { d ≡ store.now.domain }
+    requires some { 1 ≤ store.now.most }
+    ensures beside { AreBeside store.now.domain store.now.log [] result }
+{
+    let mut masks = [full_mask(d); 40];
+    store.narrow(&Nogood::new(), &mut masks);
+    masks
+}
+
+/// Deletes each nogood but the empty one for which a variable has no open value, in one sweep.
+fn sweep_all(
+    alloc: Global,
+    lang: &Language,
+    inst: &Instance,
+    store: &mut Store,
+) -> Result<(), NoMemory>
+    requires few { length inst.now.variables ≤ 40 }
+    requires deleting { IsDeleting lang.now inst.now store.old }
+    ensures deletes { OnOk result
+        (Deletes lang.now inst.now (AllOpen (length inst.now.variables) lang.now.domain store.old.most) store.old store.new) }
+{
+    let masks = first_masks(store, lang.domain());
+    let most = store.most();
+    sweep(alloc, lang, inst, store, &Nogood::new(), &masks, 0, most)
+}
+
+/// Sweeps until nothing more is deleted.
+pub(crate) fn delete_all(
+    alloc: Global,
+    lang: &Language,
+    inst: &Instance,
+    store: &mut Store,
+) -> Result<(), NoMemory>
+    requires few { length inst.now.variables ≤ 40 }
+    requires deleting { IsDeleting lang.now inst.now store.old }
+    ensures swept { OnOk result (IsSwept lang.now inst.now store.old store.new) }
+{
+    loop {
+        let before = store.steps().len();
+        sweep_all(alloc, lang, inst, store)?;
+        if store.steps().len() == before {
+            return Ok(());
+        }
+    }
 }
