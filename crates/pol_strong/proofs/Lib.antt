@@ -4,3 +4,5 @@ pub mod Variables
 pub mod Decomposition
 pub mod Extension
 pub mod KeptParts
+pub mod Settling
+pub mod KeptSolutions
