@@ -6,3 +6,5 @@ pub mod Extension
 pub mod KeptParts
 pub mod Settling
 pub mod KeptSolutions
+pub mod GivenPairs
+pub mod NextValues
