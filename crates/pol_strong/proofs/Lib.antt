@@ -8,3 +8,4 @@ pub mod Settling
 pub mod KeptSolutions
 pub mod GivenPairs
 pub mod NextValues
+pub mod ScopeCases
