@@ -1,20 +1,19 @@
 -- The parts that hold no nogood of a log of deletions: a family, which an operation preserves that preserves the
 -- relations.
-use Rattle.std.proofs.Common.{◌≡◌, ◌≢◌, ℕ, suc, zero, ◌+◌, ◌<◌, ◌≤◌, List, [], ◌∷◌, ◌++◌, length, All, Contains, arith, ap, get_or, set, map, inl, inr, refl, sym, ◌∙◌, ◌⊎◌, subst, true}
+use Rattle.std.proofs.Common.{◌≡◌, ◌≢◌, ℕ, ◌<◌, ◌≤◌, List, [], ◌∷◌, ◌++◌, length, All, Contains, arith, ap, get_or, set, inl, inr, refl, sym, ◌∙◌, ◌⊎◌, subst}
 use Rattle.std.proofs.lemmas.List.{get_or-map, length-map, get_or-set_same, get_or-set_other}
 use Rattle.std.proofs.lemmas.List.Elements.{Contains-get_or, All-contains, All-append, All-map, All-nil, All-cons, All-from_get_or, Contains-append_cases}
 use Rattle.std.proofs.lemmas.List.FromFn.{length-map-range_with_len, get_or-map-range_with_len}
 use Rattle.pol_base.specs.Tuples.{IsTuple}
 use Rattle.pol_base.proofs.MemberLemmas.{Contains-here, Contains-there, Contains-cons_cases, Contains-nil, in_map}
-use Rattle.pol_relation.specs.Relations.{RelationView, LanguageView, IsLanguage, IsRelationOver, relation_of, rows_of, no_named}
+use Rattle.pol_relation.specs.Relations.{LanguageView, IsLanguage, rows_of, no_named}
 use Rattle.pol_relation.specs.Instances.{InstanceView, ConstraintView, FitsAt, Fits, constraint_of, no_constraint}
-use Rattle.pol_optable.specs.Operations.{Operation, IsOperation, IsPolymorphism, value_at, column, image}
-use Rattle.pol_nogood.specs.Nogoods.{Pair, IsPair, IsNogood, IsContained, Holds}
-use Rattle.pol_nogood.specs.Logs.{Basis, StepView, no_step, step_at, nogood_at, is_case, value_case, value_cases, cases_of}
+use Rattle.pol_optable.specs.Operations.{Operation, IsOperation, IsPolymorphism, value_at, image}
+use Rattle.pol_nogood.specs.Nogoods.{Pair, IsNogood, Holds}
+use Rattle.pol_nogood.specs.Logs.{Basis, StepView, no_step, step_at, nogood_at, value_case, value_cases, cases_of}
 use Rattle.pol_nogood.specs.ValidLogs.{CanRestOn, AreValid}
-use Rattle.pol_nogood.proofs.LogCases.{IsCaseByPlace, case_from_places, row_in_cases, HasHeldCase}
+use Rattle.pol_nogood.proofs.LogCases.{case_from_places, row_in_cases, HasHeldCase}
 use Rattle.pol_nogood.proofs.LogSound.{HoldsParts, HoldsCases, refuted_all}
-use Rattle.pol_strong.specs.Parts.{SameAt}
 use Rattle.pol_strong.specs.Families.{AreAmong, AreKnown, IsFamily, Extended, Extends, Reads, Supports, BreaksNone, IsPreserved, vars_of, HeldAt, KeptBy}
 use Rattle.pol_strong.specs.Contradictions.{HasCase}
 use Rattle.pol_strong.specs.Finished.{RefersByVariable}

@@ -4,6 +4,11 @@ pub mod Variables
 pub mod Decomposition
 pub mod Extension
 pub mod KeptParts
+pub mod Settling
+pub mod KeptSolutions
+pub mod GivenPairs
+pub mod NextValues
+pub mod ScopeCases
 pub mod MaskLemmas
 pub mod PushLemmas
 pub mod RankLemmas

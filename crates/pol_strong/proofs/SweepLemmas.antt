@@ -11,11 +11,11 @@ use Rattle.pol_nogood.specs.Logs.{Basis, StepView, value_case, nogood_at, FitsMo
 use Rattle.pol_nogood.specs.ValidLogs.{HasReferences, IsValidStep}
 use Rattle.pol_nogood.proofs.LogMaking.{nogood_at-append, variable_step_of, IsContained-left, IsContained-itself, valid_push, variable_step, FitsMost-push}
 use Rattle.pol_nogood.proofs.Counting.{nogood_count, few_steps, count_more, three_pairs}
-use Rattle.pol_strong.specs.Finished.{RefersByVariable}
+use Rattle.pol_strong.specs.Finished.{RefersByVariable, AllOpen}
 use Rattle.pol_strong.specs.Contradictions.{IsContradicted}
-use Rattle.pol_strong.specs.Finished.{RefersByVariable}
+use Rattle.pol_strong.specs.Finished.{RefersByVariable, AllOpen}
 use Rattle.pol_strong.specs.Contradictions.{AreOpen}
-use Rattle.pol_strong.specs.Sweeps.{AllOpen, AreBeside, IsDeleting, Deletes, AllOpenFrom, OpenWith, OpenBefore, OpenBelow, OpenHere}
+use Rattle.pol_strong.specs.Sweeps.{AreBeside, IsDeleting, Deletes, AllOpenFrom, OpenWith, OpenBefore, OpenBelow, OpenHere}
 use Rattle.pol_strong.specs.Stores.{StoreView, with_step}
 
 -- a step by a variable is not one by a constraint
@@ -136,7 +136,11 @@ OnOk_then (Err e) here then = tt
 
 -- a sweep from the empty front comes to all nogoods
 pub open_from_none : (n d most : ℕ) (log : List StepView) → AllOpenFrom n d [] 0 most log → AllOpen n d most log
-open_from_none n d most log all = λ nogood small some free. all nogood small.is_nogood some (λ k e inside. omega arith) small.few free
+open_from_none n d most log all = λ nogood small some free. all nogood small.is_nogood (has_pairs nogood some) (λ k e inside. omega arith) small.few free
+  where
+    has_pairs : (nogood : List Pair) → nogood ≢ [] → 1 ≤ length nogood
+    has_pairs [] some = absurd (some refl)
+    has_pairs (p ∷ rest) some = omega arith
 
 -- what is left to delete is less behind a sweep that deleted something
 pub fewer_left : (lang : LanguageView) (inst : InstanceView) (Settled : List StepView → Type 0) (old new : StoreView) → Deletes lang inst Settled old new → length new.log ≢ length old.log

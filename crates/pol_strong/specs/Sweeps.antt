@@ -7,7 +7,7 @@ use Rattle.pol_nogood.specs.Nogoods.{Pair, IsContained, IsNogood}
 use Rattle.pol_nogood.specs.Logs.{StepView, value_case, nogood_at, FitsMost}
 use Rattle.pol_nogood.specs.ValidLogs.{AreValid}
 use Rattle.pol_strong.specs.Contradictions.{IsContradicted, AreOpen}
-use Rattle.pol_strong.specs.Finished.{IsSmall, RefersByVariable}
+use Rattle.pol_strong.specs.Finished.{RefersByVariable, AllOpen}
 use Rattle.pol_strong.specs.Stores.{StoreView, pair_of}
 
 -- masks without the values that are deleted beside a part of the front
@@ -70,15 +70,6 @@ OpenBelow n d front x a most log = (b : ℕ) → b < a → OpenWith n d front x 
 -- the front is empty, contains a deleted nogood, or has open values
 abbrev pub OpenHere : (n d : ℕ) → List Pair → List StepView → Type 0
 OpenHere n d front log = 1 ≤ length front → ¬ IsContradicted log front → AreOpen n d log front
-
--- so it is with all nogoods of at most so many pairs but the empty one
-abbrev pub AllOpen : (n d most : ℕ) → List StepView → Type 0
-AllOpen n d most log =
-    (nogood : List Pair)
-    → IsSmall n d most nogood
-    → 1 ≤ length nogood
-    → ¬ IsContradicted log nogood
-    → AreOpen n d log nogood
 
 -- what the sweeps leave: the same of a longer log, in which no nogood but the empty one is left to delete by a variable
 pub record IsSwept (lang : LanguageView) (inst : InstanceView) (old new : StoreView) : Type 0 where

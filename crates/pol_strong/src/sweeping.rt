@@ -2,7 +2,8 @@ ghost use Rattle.std.specs.Prelude.{◌≡◌, ◌≢◌, ◌+◌, ◌<◌, ◌�
 ghost use Rattle.pol_nogood.specs.Nogoods.{IsNogood};
 ghost use Rattle.pol_nogood.specs.Logs.{value_case};
 ghost use Rattle.pol_strong.specs.Contradictions.{IsContradicted};
-ghost use Rattle.pol_strong.specs.Sweeps.{AreBeside, IsDeleting, Deletes, AllOpen, AllOpenFrom, IsSwept};
+ghost use Rattle.pol_strong.specs.Sweeps.{AreBeside, IsDeleting, Deletes, AllOpenFrom, IsSwept};
+ghost use Rattle.pol_strong.specs.Finished.{AllOpen};
 
 use crate::closing::delete_by_variable;
 use crate::nogoods::{joined, one_pair, two_pairs};

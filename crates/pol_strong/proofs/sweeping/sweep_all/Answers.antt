@@ -1,7 +1,8 @@
 use Rattle.std.proofs.Common.{◌≡◌, ℕ, List, [], length, sym, subst}
 use Rattle.pol_nogood.specs.Nogoods.{Pair}
 use Rattle.pol_nogood.specs.Logs.{StepView}
-use Rattle.pol_strong.specs.Sweeps.{AreBeside, AllOpen, AllOpenFrom}
+use Rattle.pol_strong.specs.Finished.{AllOpen}
+use Rattle.pol_strong.specs.Sweeps.{AreBeside, AllOpenFrom}
 use Rattle.pol_strong.proofs.SweepLemmas.{OnOk_then, deletes_weaker, open_from_none}
 use Rattle.pol_strong.proofs.sweeping.sweep_all.Goals as goal
 
