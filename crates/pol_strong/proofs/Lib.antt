@@ -18,3 +18,4 @@ pub mod OpenLemmas
 pub mod SweepLemmas
 pub mod InsertLemmas
 pub mod PartLemmas
+pub mod ScopeLemmas

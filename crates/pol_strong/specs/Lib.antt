@@ -6,3 +6,4 @@ pub mod Ranks
 pub mod Stores
 pub mod Sweeps
 pub mod Insertions
+pub mod Covers

@@ -6,6 +6,7 @@ mod closing;
 mod masks;
 mod nogoods;
 mod parts;
+mod scopes;
 mod store;
 mod sweeping;
 
