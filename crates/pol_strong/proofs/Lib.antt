@@ -19,3 +19,4 @@ pub mod SweepLemmas
 pub mod InsertLemmas
 pub mod PartLemmas
 pub mod ScopeLemmas
+pub mod CoverLemmas

@@ -3,7 +3,7 @@ use Rattle.std.proofs.Common.{◌≡◌, ◌≢◌, ℕ, suc, zero, ◌+◌, ◌
 use Rattle.std.specs.Prelude.{IfNone}
 use Rattle.std.specs.List.{remove}
 use Rattle.std.proofs.lemmas.Bool.{cases_eq, cases_lt}
-use Rattle.std.proofs.lemmas.List.{get_or_default, length_push}
+use Rattle.std.proofs.lemmas.List.{get_or_default, get_or_push, length_push}
 use Rattle.std.proofs.lemmas.List.Edits.{length-remove}
 use Rattle.std.proofs.lemmas.List.Elements.{All-nil, All-cons, All-contains, Contains-get_or, Contains-append_left, Contains-append_right, Contains-append_cases}
 use Rattle.std.proofs.lemmas.List.Kept.{AllPairs-cons}
@@ -61,6 +61,10 @@ free_one_more log front part p q i same alone before here k less = by (cases_eq 
     by : (k ≡ i) ⊎ (k ≡ i → ⊥) → IsFree log (pair_of front k ∷ []) p
     by (inl equal) = subst (λ (ps : List Pair). IsFree log ps p) (alone ∙ ap (λ (r : Pair). r ∷ []) (sym (ap (pair_of front) equal ∙ same))) here
     by (inr apart) = before k (omega arith)
+
+remove-last : (front : List Pair) (p : Pair) → remove (front ++ p ∷ []) (length front) ≡ front
+remove-last [] p = refl
+remove-last (q ∷ front) p = ap (λ (rest : List Pair). q ∷ rest) (remove-last front p)
 
 module _ (n d : ℕ) (front : List Pair) (is : IsNogood n d front) where
   at_pair : (i : ℕ) → i < length front → IsPair n d (pair_of front i)
@@ -154,3 +158,31 @@ module _ (n d : ℕ) (front : List Pair) (is : IsNogood n d front) where
           let size : length nogood ≤ most = is_small.few in
           absurd (by_shape i inside pair shorter (shape_of (remove nogood i) (IsNogood-remove n d nogood i inside is_small.is_nogood) (omega arith) (rest_inner n d front v a apart nogood i is_small.is_nogood inside same found.within)))
       by (inr other) = record { step = found.step; known = found.known; within = λ k e inside. inner n d front v a apart (get_or nogood k e) (found.within k e inside) (other k e inside) }
+
+  -- nor is the front with the pair the nogood of a step
+  pub none_same : (most : ℕ) (log : List StepView) (v a : ℕ) → most ≤ 3 → All (λ s. IsSmall n d most s.nogood) log
+      → IsFree log [] (record { variable = v; value = a })
+      → (2 ≤ most → (k : ℕ) → k < length front → IsFree log (pair_of front k ∷ []) (record { variable = v; value = a }))
+      → (3 ≤ most → (i k : ℕ) → i < k → k < length front → IsFree log (pair_of front i ∷ pair_of front k ∷ []) (record { variable = v; value = a }))
+      → All (λ s. s.nogood ≢ front ++ value_case v a) log
+  none_same most log v a few small free free_one free_two s e inside same =
+      let long : length nogood ≡ length front + 1 = ap length same ∙ length_push front p in
+      let size : length nogood ≤ most = (small s e inside).few in
+      by (shape_of front is (omega arith) (IsContained-itself front)) (omega arith) (omega arith)
+    where
+      p : Pair
+      p = record { variable = v; value = a }
+
+      nogood : List Pair
+      nogood = (get_or log s e).nogood
+
+      others : (part : List Pair) → front ≡ part → remove nogood (length front) ≡ part
+      others part equal = ap (λ (ps : List Pair). remove ps (length front)) same ∙ (remove-last front p ∙ equal)
+
+      last : pair_of nogood (length front) ≡ p
+      last = ap (λ (ps : List Pair). pair_of ps (length front)) same ∙ get_or_push front p _ (length front) refl
+
+      by : Shape front → length front < length nogood → length front + 1 ≤ most → ⊥
+      by (none empty) known room = free s e inside (length front) known (others [] empty) last
+      by (one k place alone) known room = let long : length front ≡ 1 = ap length alone in free_one (omega arith) k place s e inside (length front) known (others (pair_of front k ∷ []) alone) last
+      by (two j k less place both) known room = let long : length front ≡ 2 = ap length both in free_two (omega arith) j k less place s e inside (length front) known (others (pair_of front j ∷ pair_of front k ∷ []) both) last

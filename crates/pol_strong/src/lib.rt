@@ -3,6 +3,7 @@
 #![tactic(auto)]
 
 mod closing;
+mod covering;
 mod masks;
 mod nogoods;
 mod parts;

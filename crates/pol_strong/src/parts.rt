@@ -100,7 +100,9 @@ pub(crate) fn reference(store: &Store, front: &Nogood, v: u32, a: u8) -> Option<
     requires apart { All (λ p. p.variable ≢ v) front.now }
     ensures known { IfSome result (λ s. s < length store.now.log) }
     ensures within { IfSome result (λ s. IsContained (nogood_at store.now.log s) (front.now ++ value_case v a)) }
-    ensures none { IfNone result (IsContradicted store.now.log (front.now ++ value_case v a) → IsContradicted store.now.log front.now) }
+    ensures none { IfNone result
+        (IsContradicted store.now.log (front.now ++ value_case v a) → IsContradicted store.now.log front.now) }
+    ensures other { IfNone result (All (λ s. s.nogood ≢ front.now ++ value_case v a) store.now.log) }
 {
     let most = store.most();
     if let Some(step) = step_with(store, &Nogood::new(), v, a) {
