@@ -1,6 +1,6 @@
 -- Deletions by a constraint, and what they leave of all that goes on from a front.
 use Rattle.std.proofs.Common.{◌≡◌, ◌≢◌, ℕ, suc, zero, ◌+◌, ◌-◌, ◌<◌, ◌≤◌, ◌⊎◌, inl, inr, true, false, List, [], ◌∷◌, ◌++◌, length, get_or, All, Contains, refl, sym, ap, ◌∙◌, subst, arith, append-nil, length-append}
-use Rattle.std.proofs.lemmas.Bool.{cases_eq, false_from_ne_true}
+use Rattle.std.proofs.lemmas.Bool.{cases_eq, cases_lt, false_from_ne_true}
 use Rattle.std.proofs.lemmas.List.{length_push, append_assoc, get_or-append_right}
 use Rattle.std.proofs.lemmas.List.Elements.{All-head, All-tail, All-push, All-contains, Contains-get_or, Contains-append_right}
 use Rattle.pol_relation.specs.Relations.{LanguageView, rows_of}
@@ -13,7 +13,7 @@ use Rattle.pol_strong.specs.Finished.{RefersByVariable}
 use Rattle.pol_strong.specs.Stores.{StoreView, with_step}
 use Rattle.pol_strong.specs.Sweeps.{IsDeleting}
 use Rattle.pol_strong.specs.Covers.{CoversFrom, CoversWith, CoversBefore, CoversBelow, Adds}
-use Rattle.pol_strong.proofs.SweepLemmas.{contradicted_push, contradicted_by, contradicted_more}
+use Rattle.pol_strong.proofs.SweepLemmas.{later_variables, contradicted_push, contradicted_by, contradicted_more}
 
 -- where no row is a case
 pub no_case_rows : (lang : LanguageView) (c : ConstraintView) (nogood : List Pair) → (HasCase lang c nogood → ⊥) → All (λ row. is_case c.scope nogood row ≡ false) (rows_of lang c.relation)
@@ -58,3 +58,57 @@ module _ (lang : LanguageView) (inst : InstanceView) where
     kept = λ nogood found. second.kept nogood (first.kept nogood found);
     covered = both first.covered second.kept second.covered;
   }
+
+-- ---- what goes on from a front
+
+module _ (lang : LanguageView) (inst : InstanceView) (c : ConstraintView) where
+  -- it stays covered where more is contradicted
+  pub covers_later : (front : List Pair) (low most : ℕ) (old new : List StepView) → ((nogood : List Pair) → IsContradicted old nogood → IsContradicted new nogood) → CoversFrom lang inst c front low most old → CoversFrom lang inst c front low most new
+  covers_later front low most old new kept covers = λ more is from within few free. covers more is from within few (λ found. free (kept (front ++ more) found))
+
+  pub covers_contradicted : (front : List Pair) (low most : ℕ) (log : List StepView) → IsContradicted log front → CoversFrom lang inst c front low most log
+  covers_contradicted front low most log found = λ more is from within few free. absurd (free (contradicted_more log front more found))
+
+  -- no pair more
+  pub covers_none : (front : List Pair) (low most : ℕ) (log : List StepView) → most ≡ 0 → HasCase lang c front → CoversFrom lang inst c front low most log
+  covers_none front low most log none case [] is from within few free = subst (HasCase lang c) (sym (append-nil front)) case
+  covers_none front low most log none case (p ∷ more) is from within few free = absurd (omega arith)
+
+  pub covers_below : (front : List Pair) (x a most : ℕ) (log : List StepView) → CoversBelow lang inst c front x a most log → CoversWith lang inst c front x a most log → CoversBelow lang inst c front x (a + 1) most log
+  covers_below front x a most log before last = λ b less. by b less (cases_eq b a)
+    where
+      by : (b : ℕ) → b < a + 1 → (b ≡ a) ⊎ (b ≡ a → ⊥) → CoversWith lang inst c front x b most log
+      by b less (inl same) = subst (λ (k : ℕ). CoversWith lang inst c front x k most log) (sym same) last
+      by b less (inr apart) = before b (omega arith)
+
+  -- and all variables up to the next of the scope
+  pub covers_before : (front : List Pair) (low x next e most : ℕ) (log : List StepView) → lang.domain ≤ e → ((y : ℕ) → x + 1 ≤ y → y < next → Contains c.scope y → ⊥) → CoversBefore lang inst c front low x most log → CoversBelow lang inst c front x e most log → CoversBefore lang inst c front low next most log
+  covers_before front low x next e most log all skipped before last = λ y a from less inside below. by y a from less inside below (cases_eq y x)
+    where
+      by : (y a : ℕ) → low ≤ y → y < next → Contains c.scope y → a < lang.domain → (y ≡ x) ⊎ (y ≡ x → ⊥) → CoversWith lang inst c front y a most log
+      by y a from less inside below (inl same) = subst (λ (k : ℕ). CoversWith lang inst c front k a most log) (sym same) (last a (omega arith))
+      by y a from less inside below (inr apart) = by_order (cases_lt y x)
+        where
+          by_order : (y < x) ⊎ (x ≤ y) → CoversWith lang inst c front y a most log
+          by_order (inl lower) = before y a from lower inside below
+          by_order (inr more) = absurd (skipped y (later x y more apart) less inside)
+            where
+              later : (x y : ℕ) → x ≤ y → (y ≡ x → ⊥) → x + 1 ≤ y
+              later x y more apart = by_more (cases_lt x y)
+                where
+                  by_more : (x < y) ⊎ (y ≤ x) → x + 1 ≤ y
+                  by_more (inl less) = omega arith
+                  by_more (inr least) = absurd (apart (omega arith))
+
+  -- the front itself, and all that goes on with some variable
+  pub covers_all : (front : List Pair) (low x most : ℕ) (log : List StepView) → length inst.variables ≤ x → HasCase lang c front → CoversBefore lang inst c front low x most log → CoversFrom lang inst c front low most log
+  covers_all front low x most log past case before [] is from within few free = subst (HasCase lang c) (sym (append-nil front)) case
+  covers_all front low x most log past case before (p ∷ more) is from within few free =
+      let same : (front ++ p ∷ []) ++ more ≡ front ++ p ∷ more = append_assoc front (p ∷ []) more in
+      let known : IsPair (length inst.variables) lang.domain p = All-contains (IsPair (length inst.variables) lang.domain) (front ++ p ∷ more) p is.pairs (Contains-append_right front (p ∷ more) p (0, omega arith, refl)) in
+      let first : low ≤ p.variable = All-head (λ (q : Pair). low ≤ q.variable) p more from in
+      let variable : p.variable < length inst.variables = known.variable_known in
+      subst (HasCase lang c) same
+      (before p.variable p.value first (omega arith) (All-head (λ (q : Pair). Contains c.scope q.variable) p more within) known.value_known more
+      (subst (IsNogood (length inst.variables) lang.domain) (sym same) is) (later_variables (length inst.variables) lang.domain front p more is)
+      (All-tail (λ (q : Pair). Contains c.scope q.variable) p more within) (omega arith) (λ found. free (subst (IsContradicted log) same found)))

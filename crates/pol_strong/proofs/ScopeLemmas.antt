@@ -4,9 +4,12 @@ use Rattle.std.proofs.lemmas.Bool.{cond-true, cond-false, cases_eq, eq-eqb, ne_e
 use Rattle.std.proofs.lemmas.List.{get_or_default}
 use Rattle.std.proofs.lemmas.List.Elements.{All-nil, All-cons, All-append, All-contains, Contains-get_or, Contains-append_left, Contains-append_right}
 use Rattle.pol_base.proofs.MemberLemmas.{Contains-here, Contains-there, Contains-cons_cases, Contains-nil}
+use Rattle.pol_relation.specs.Relations.{LanguageView, RelationView, IsRelation, relation_of, rows_of}
+use Rattle.pol_relation.specs.Instances.{InstanceView, ConstraintView, Fits, constraint_of, no_constraint}
 use Rattle.pol_nogood.specs.Nogoods.{Pair}
 use Rattle.pol_nogood.specs.Logs.{is_case, value_case}
 use Rattle.pol_nogood.proofs.LogCases.{IsCaseByPlace, places_from_case, case_from_places, excluded_by_repeat}
+use Rattle.pol_strong.specs.Contradictions.{HasCase}
 use Rattle.pol_strong.specs.Covers.{first_place, row_at, AreCases, HasRow}
 
 -- the first place of a variable
@@ -94,3 +97,29 @@ module _ (P : ℕ → Type 0) (numbers some : List ℕ) (i : ℕ) (inside : i < 
       by : (k ≡ i) ⊎ (k ≡ i → ⊥) → Contains some (get_or numbers k 0)
       by (inl same) = absurd (other (subst P (ap (λ j. get_or numbers j 0) same) holds))
       by (inr apart) = before k (omega arith) holds
+
+-- the rows of a constraint have the length of its scope
+pub long_rows : (lang : LanguageView) (inst : InstanceView) (c : ℕ) (r : RelationView) → Fits lang inst → c < length inst.constraints → r ≡ relation_of lang (constraint_of inst c).relation → IsRelation r
+    → (k : ℕ) → k < length (rows_of lang (constraint_of inst c).relation) → length (row_at (rows_of lang (constraint_of inst c).relation) k) ≡ length (constraint_of inst c).scope
+long_rows lang inst c r fits known same is k inside =
+    let relation : IsRelation (relation_of lang (constraint_of inst c).relation) = subst IsRelation same is in
+    (relation.tuples k [] inside).long ∙ sym (fits c no_constraint known).long
+
+module _ (lang : LanguageView) (c : ConstraintView) (long : (k : ℕ) → k < length (rows_of lang c.relation) → length (row_at (rows_of lang c.relation) k) ≡ length c.scope) (front : List Pair) (numbers : List ℕ) (are : AreCases (rows_of lang c.relation) c.scope front numbers)
+    (place x a : ℕ) (inside : place < length c.scope) (at : get_or c.scope place 0 ≡ x) where
+  pub no_case_with : (HasRow (rows_of lang c.relation) numbers place a → ⊥) → HasCase lang c (front ++ value_case x a) → ⊥
+  no_case_with none case =
+      let there : Contains (rows_of lang c.relation) case.row = case.listed in
+      let same : row_at (rows_of lang c.relation) there.0 ≡ case.row = get_or_default (rows_of lang c.relation) there.0 [] case.row there.1 ∙ there.2 in
+      both_ways (is_case c.scope (front ++ value_case x a) case.row)
+      (subst (λ (row : List ℕ). is_case c.scope (front ++ value_case x a) row ≡ false) same (no_cases_with (rows_of lang c.relation) c.scope long place x a inside at front numbers are none there.0 there.1))
+      case.is
+
+  pub case_with : HasRow (rows_of lang c.relation) numbers place a → HasCase lang c (front ++ value_case x a)
+  case_with has =
+      let known : has.number < length (rows_of lang c.relation) = All-contains (λ r. r < length (rows_of lang c.relation)) numbers has.number are.known has.listed in
+      record {
+        row = row_at (rows_of lang c.relation) has.number;
+        listed = Contains-get_or (rows_of lang c.relation) has.number [] known;
+        is = case_more c.scope front (row_at (rows_of lang c.relation) has.number) (long has.number known) place x a inside at (All-contains (λ r. is_case c.scope front (row_at (rows_of lang c.relation) r) ≡ true) numbers has.number are.cases has.listed) has.value;
+      }

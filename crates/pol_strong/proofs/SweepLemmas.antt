@@ -58,6 +58,16 @@ open_before n d front low x e most log all before last = λ y a from less below.
     by y a from less below (inl same) = subst (λ (k : ℕ). OpenWith n d front k a most log) (sym same) (last a (omega arith))
     by y a from less below (inr apart) = before y a from (omega arith) below
 
+-- behind a pair of a nogood stand greater variables
+pub later_variables : (n d : ℕ) (front : List Pair) (p : Pair) (more : List Pair) → IsNogood n d (front ++ p ∷ more) → All (λ q. p.variable + 1 ≤ q.variable) more
+later_variables n d front p more is = λ k e inside.
+    let none : length front - length front ≡ 0 = omega arith in
+    let some : (length front + suc k) - length front ≡ suc k = omega arith in
+    let one : get_or (front ++ p ∷ more) (length front) e ≡ p = get_or-append_right front (p ∷ more) (length front) (length front) e refl (omega arith) ∙ ap (λ (j : ℕ). get_or (p ∷ more) j e) none in
+    let other : get_or (front ++ p ∷ more) (length front + suc k) e ≡ get_or more k e = get_or-append_right front (p ∷ more) (length front) (length front + suc k) e refl (omega arith) ∙ ap (λ (j : ℕ). get_or (p ∷ more) j e) some in
+    let less : (get_or (front ++ p ∷ more) (length front) e).variable < (get_or (front ++ p ∷ more) (length front + suc k) e).variable = is.ascending (length front) (length front + suc k) e (omega arith) (omega (arith, length-append front (p ∷ more))) in
+    omega (arith, less, ap (λ (q : Pair). q.variable) one, ap (λ (q : Pair). q.variable) other)
+
 -- the front itself, and all that goes on with some variable
 pub open_all : (n d : ℕ) (front : List Pair) (low x most : ℕ) (log : List StepView) → n ≤ x → OpenHere n d front log → OpenBefore n d front low x most log → AllOpenFrom n d front low most log
 open_all n d front low x most log past here before [] is some from few free = subst (AreOpen n d log) (sym (append-nil front)) (here (omega (arith, length-append {A = Pair} front [])) (λ found. free (subst (IsContradicted log) (sym (append-nil front)) found)))
@@ -67,16 +77,7 @@ open_all n d front low x most log past here before (p ∷ more) is some from few
     let first : low ≤ p.variable = All-head (λ (q : Pair). low ≤ q.variable) p more from in
     let variable : p.variable < n = known.variable_known in
     subst (AreOpen n d log) same
-    (before p.variable p.value first (omega arith) known.value_known more (subst (IsNogood n d) (sym same) is) (omega (arith, some, ap length same)) (later is) (omega arith) (λ found. free (subst (IsContradicted log) same found)))
-  where
-    later : IsNogood n d (front ++ p ∷ more) → All (λ q. p.variable + 1 ≤ q.variable) more
-    later is = λ k e inside.
-        let none : length front - length front ≡ 0 = omega arith in
-        let some : (length front + suc k) - length front ≡ suc k = omega arith in
-        let one : get_or (front ++ p ∷ more) (length front) e ≡ p = get_or-append_right front (p ∷ more) (length front) (length front) e refl (omega arith) ∙ ap (λ (j : ℕ). get_or (p ∷ more) j e) none in
-        let other : get_or (front ++ p ∷ more) (length front + suc k) e ≡ get_or more k e = get_or-append_right front (p ∷ more) (length front) (length front + suc k) e refl (omega arith) ∙ ap (λ (j : ℕ). get_or (p ∷ more) j e) some in
-        let less : (get_or (front ++ p ∷ more) (length front) e).variable < (get_or (front ++ p ∷ more) (length front + suc k) e).variable = is.ascending (length front) (length front + suc k) e (omega arith) (omega (arith, length-append front (p ∷ more))) in
-        omega (arith, less, ap (λ (q : Pair). q.variable) one, ap (λ (q : Pair). q.variable) other)
+    (before p.variable p.value first (omega arith) known.value_known more (subst (IsNogood n d) (sym same) is) (omega (arith, some, ap length same)) (later_variables n d front p more is) (omega arith) (λ found. free (subst (IsContradicted log) same found)))
 
 module _ (lang : LanguageView) (inst : InstanceView) where
   pub deletes_nothing : (Settled : List StepView → Type 0) (old new : StoreView) → IsDeleting lang inst old → new ≡ old → Settled old.log → Deletes lang inst Settled old new

@@ -7,7 +7,7 @@ ghost use Rattle.pol_nogood.specs.Logs.{value_case};
 ghost use Rattle.pol_strong.specs.Contradictions.{IsContradicted, HasCase};
 ghost use Rattle.pol_strong.specs.Finished.{HasScopeCases};
 ghost use Rattle.pol_strong.specs.Sweeps.{IsDeleting};
-ghost use Rattle.pol_strong.specs.Covers.{row_at, AreCases, HasRow, CoversFrom, Adds};
+ghost use Rattle.pol_strong.specs.Covers.{AreCases, CoversFrom, CoversWith, Adds};
 
 use crate::nogoods::joined;
 use crate::parts::reference;
@@ -51,4 +51,67 @@ fn delete_uncovered(
     let refs = Numbers::new(alloc);
     store.put(Step::ByConstraint { c, nogood, refs })?;
     Ok(())
+}
+
+/// Whether a deleted nogood that names the variable is contained in the front joined with the pair.
+fn is_contradicted(store: &Store, front: &Nogood, x: u32, a: u8) -> bool
+    requires front { IsNogood store.now.variables store.now.domain front.now }
+    requires size { length front.now ≤ store.now.most }
+    requires variable { x < store.now.variables }
+    requires value { a < store.now.domain }
+    requires apart { All (λ p. p.variable ≢ x) front.now }
+    ensures contradicted { OnTrue result (IsContradicted store.now.log (front.now ++ value_case x a)) }
+{
+    if let Some(_step) = reference(store, front, x, a) {
+        return true;
+    }
+    false
+}
+
+/// The rows that go on with the pair, and none where nothing is left to delete behind it: where none goes
+/// on, the front joined with the pair is deleted.
+fn next_rows(
+    alloc: Global,
+    lang: &Language,
+    inst: &Instance,
+    c: u32,
+    store: &mut Store,
+    front: &Nogood,
+    rows: &[u32],
+    x: u32,
+    a: u8,
+    most: u32,
+) -> Result<Option<Numbers>, NoMemory>
+    requires few { length inst.now.variables ≤ 40 }
+    requires fits { Fits lang.now inst.now }
+    requires deleting { IsDeleting lang.now inst.now store.old }
+    requires known { c < length inst.now.constraints }
+    requires front { IsNogood (length inst.now.variables) lang.now.domain front.now }
+    requires before { All (λ p. p.variable < x) front.now }
+    requires some { 1 ≤ most }
+    requires size { length front.now + most ≡ store.old.most }
+    requires variable { x < length inst.now.variables }
+    requires scope { Contains (constraint_of inst.now c).scope x }
+    requires value { a < lang.now.domain }
+    requires cases { AreCases (rows_of lang.now (constraint_of inst.now c).relation) (constraint_of inst.now c).scope front.now rows.now }
+    ensures none { IfOk result (λ found. IfNone found
+        (Adds lang.now inst.now (CoversWith lang.now inst.now (constraint_of inst.now c) front.now x a most) store.old store.new)) }
+    ensures same { IfOk result (λ found. IfSome found (λ _. store.new ≡ store.old)) }
+    ensures cases { IfOk result (λ found. IfSome found (λ next.
+        AreCases (rows_of lang.now (constraint_of inst.now c).relation) (constraint_of inst.now c).scope (front.now ++ value_case x a) next)) }
+    ensures case { IfOk result (λ found. IfSome found (λ _. HasCase lang.now (constraint_of inst.now c) (front.now ++ value_case x a))) }
+{
+    let relation = lang.relation(inst.relation_of(c));
+    let scope = inst.scope(c);
+    let _arity = relation.arity();
+    let place = place_of(scope, x);
+    if !has_row(relation, rows, place, a) {
+        delete_uncovered(alloc, lang, inst, c, store, front, x, a)?;
+        return Ok(None);
+    }
+    if most < 2 || is_contradicted(store, front, x, a) {
+        return Ok(None);
+    }
+    let next = rows_with(alloc, relation, scope, rows, x, a)?;
+    Ok(Some(next))
 }
