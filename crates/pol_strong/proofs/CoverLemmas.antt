@@ -7,7 +7,7 @@ use Rattle.pol_relation.specs.Relations.{LanguageView, rows_of}
 use Rattle.pol_relation.specs.Instances.{InstanceView, ConstraintView, constraint_of}
 use Rattle.pol_nogood.specs.Nogoods.{Pair, IsPair, IsNogood}
 use Rattle.pol_nogood.specs.Logs.{StepView, value_case, is_case}
-use Rattle.pol_nogood.proofs.LogMaking.{constraint_step_of, breaking_step, valid_push, FitsMost-push, nogood_at-push}
+use Rattle.pol_nogood.proofs.LogMaking.{IsNogood-push, constraint_step_of, breaking_step, valid_push, FitsMost-push, nogood_at-push}
 use Rattle.pol_strong.specs.Contradictions.{IsContradicted, HasCase}
 use Rattle.pol_strong.specs.Finished.{RefersByVariable}
 use Rattle.pol_strong.specs.Stores.{StoreView, with_step}
@@ -112,3 +112,12 @@ module _ (lang : LanguageView) (inst : InstanceView) (c : ConstraintView) where
       (before p.variable p.value first (omega arith) (All-head (λ (q : Pair). Contains c.scope q.variable) p more within) known.value_known more
       (subst (IsNogood (length inst.variables) lang.domain) (sym same) is) (later_variables (length inst.variables) lang.domain front p more is)
       (All-tail (λ (q : Pair). Contains c.scope q.variable) p more within) (omega arith) (λ found. free (subst (IsContradicted log) same found)))
+
+-- a front with a pair of a later variable
+
+pub joined_before : (front : List Pair) (x a low : ℕ) → low ≤ x → All (λ q. q.variable < low) front → All (λ q. q.variable < x + 1) (front ++ value_case x a)
+joined_before front x a low order before = All-push (λ (q : Pair). q.variable < x + 1) front (record { variable = x; value = a }) (λ k e inside. let less : (get_or front k e).variable < low = before k e inside in omega arith) (omega arith)
+
+pub joined_nogood : (n d : ℕ) (front : List Pair) (x a low : ℕ) → IsNogood n d front → x < n → a < d → low ≤ x → All (λ q. q.variable < low) front → IsNogood n d (front ++ value_case x a)
+joined_nogood n d front x a low is variable value order before =
+    IsNogood-push n d front (record { variable = x; value = a }) is (record { variable_known = variable; value_known = value }) (λ k e inside. let less : (get_or front k e).variable < low = before k e inside in omega arith)

@@ -1,6 +1,6 @@
 -- What goes on from a front within the scope of a constraint, and the rows of its relation that are cases.
 use Rattle.std.specs.Prelude.{◌≡◌, ◌==◌, ℕ, ◌+◌, ◌-◌, ◌<◌, ◌≤◌, zero, suc, true, List, [], ◌∷◌, ◌++◌, length, slice_index, slice_index_or, All, Contains, if◌then◌else◌}
-use Rattle.pol_relation.specs.Relations.{LanguageView}
+use Rattle.pol_relation.specs.Relations.{LanguageView, rows_of}
 use Rattle.pol_relation.specs.Instances.{InstanceView, ConstraintView}
 use Rattle.pol_nogood.specs.Nogoods.{Pair, IsNogood}
 use Rattle.pol_nogood.specs.Logs.{StepView, value_case, is_case}
@@ -53,6 +53,12 @@ CoversBefore lang inst c front low x most log =
 -- the same for the first values of a variable
 abbrev pub CoversBelow : LanguageView → InstanceView → ConstraintView → (front : List Pair) → (x a most : ℕ) → List StepView → Type 0
 CoversBelow lang inst c front x a most log = (b : ℕ) → b < a → CoversWith lang inst c front x b most log
+
+-- rows that are cases of the front joined with the pair, behind which a further pair may stand
+pub record GoesOn (lang : LanguageView) (c : ConstraintView) (front : List Pair) (x a most : ℕ) (rows : List ℕ) : Type 0 where
+  pub more : 2 ≤ most
+  pub cases : AreCases (rows_of lang c.relation) c.scope (front ++ value_case x a) rows
+  pub case : HasCase lang c (front ++ value_case x a)
 
 -- there are more steps or as many, and this holds of the log
 pub record Adds (lang : LanguageView) (inst : InstanceView) (Covered : List StepView → Type 0) (old new : StoreView) : Type 0 where

@@ -7,7 +7,7 @@ ghost use Rattle.pol_nogood.specs.Logs.{value_case};
 ghost use Rattle.pol_strong.specs.Contradictions.{IsContradicted, HasCase};
 ghost use Rattle.pol_strong.specs.Finished.{HasScopeCases};
 ghost use Rattle.pol_strong.specs.Sweeps.{IsDeleting};
-ghost use Rattle.pol_strong.specs.Covers.{AreCases, CoversFrom, CoversWith, Adds};
+ghost use Rattle.pol_strong.specs.Covers.{AreCases, GoesOn, CoversFrom, CoversWith, Adds};
 
 use crate::nogoods::joined;
 use crate::parts::reference;
@@ -97,9 +97,7 @@ fn next_rows(
     ensures none { IfOk result (λ found. IfNone found
         (Adds lang.now inst.now (CoversWith lang.now inst.now (constraint_of inst.now c) front.now x a most) store.old store.new)) }
     ensures same { IfOk result (λ found. IfSome found (λ _. store.new ≡ store.old)) }
-    ensures cases { IfOk result (λ found. IfSome found (λ next.
-        AreCases (rows_of lang.now (constraint_of inst.now c).relation) (constraint_of inst.now c).scope (front.now ++ value_case x a) next)) }
-    ensures case { IfOk result (λ found. IfSome found (λ _. HasCase lang.now (constraint_of inst.now c) (front.now ++ value_case x a))) }
+    ensures goes_on { IfOk result (λ found. IfSome found (GoesOn lang.now (constraint_of inst.now c) front.now x a most)) }
 {
     let relation = lang.relation(inst.relation_of(c));
     let scope = inst.scope(c);
@@ -114,4 +112,46 @@ fn next_rows(
     }
     let next = rows_with(alloc, relation, scope, rows, x, a)?;
     Ok(Some(next))
+}
+
+/// Deletes what goes on from the front, by at most `most` pairs of variables of the constraint's scope
+/// from `low` on, and has no case of it. The rows are those that are cases of the front.
+fn cover(
+    alloc: Global,
+    lang: &Language,
+    inst: &Instance,
+    c: u32,
+    store: &mut Store,
+    front: &Nogood,
+    rows: &[u32],
+    low: u32,
+    most: u32,
+) -> Result<(), NoMemory>
+    requires few { length inst.now.variables ≤ 40 }
+    requires fits { Fits lang.now inst.now }
+    requires deleting { IsDeleting lang.now inst.now store.old }
+    requires known { c < length inst.now.constraints }
+    requires front { IsNogood (length inst.now.variables) lang.now.domain front.now }
+    requires before { All (λ p. p.variable < low) front.now }
+    requires some { 1 ≤ most }
+    requires size { length front.now + most ≡ store.old.most }
+    requires cases { AreCases (rows_of lang.now (constraint_of inst.now c).relation) (constraint_of inst.now c).scope front.now rows.now }
+    requires case { HasCase lang.now (constraint_of inst.now c) front.now }
+    ensures adds { OnOk result
+        (Adds lang.now inst.now (CoversFrom lang.now inst.now (constraint_of inst.now c) front.now low most) store.old store.new) }
+{
+    let _most = store.most();
+    let scope = inst.scope(c);
+    let n = inst.variables();
+    let d = lang.domain().size();
+    let mut x = next_variable(scope, low, n);
+    while x < n {
+        for a in 0..d {
+            if let Some(next) = next_rows(alloc, lang, inst, c, store, front, rows, x, a, most)? {
+                cover(alloc, lang, inst, c, store, &joined(front, x, a), next.as_slice(), x + 1, most - 1)?;
+            }
+        }
+        x = next_variable(scope, x + 1, n);
+    }
+    Ok(())
 }

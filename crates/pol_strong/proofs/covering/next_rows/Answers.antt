@@ -48,25 +48,22 @@ returns-then-most-lt2-clause-none c =
       | then-most-lt2-via-else-most-lt2+then-is_contradicted w ↦ covers_contradicted lang inst one (front ++ value_case c.args.x c.args.a) (c.args.x + 1) (c.args.most - 1) c.args.store.now.log w.if-is_contradicted.ensures.contradicted
     ])
 
-pub returns-clause-cases : goal.returns-clause-cases
-returns-clause-cases c =
+pub returns-clause-goes_on : goal.returns-clause-goes_on
+returns-clause-goes_on c =
     let lang = c.args.lang.now in
     let one : ConstraintView = constraint_of c.args.inst.now c.args.c in
     let front : List Pair = c.args.front.now in
     let same : c.relation-relation.result.now ≡ relation_of lang one.relation = c.relation-relation.ensures.relation ∙ ap (relation_of lang) c.relation_of.ensures.relation in
     let scope : c.scope-scope.result.now ≡ one.scope = c.scope-scope.ensures.scope in
-    subst (λ (r : RelationView). AreCases r.rows one.scope (front ++ value_case c.args.x c.args.a) c.in_ok-next.next) same
-    (subst (λ (s : List ℕ). AreCases c.relation-relation.result.now.rows s (front ++ value_case c.args.x c.args.a) c.in_ok-next.next) scope
-    (c.in_ok-next.ensures.cases front
-    (subst (λ (s : List ℕ). AreCases c.relation-relation.result.now.rows s front c.args.rows.now) (sym scope)
-    (subst (λ (r : RelationView). AreCases r.rows one.scope front c.args.rows.now) (sym same) c.requires.cases))))
-
-pub returns-clause-case : goal.returns-clause-case
-returns-clause-case c =
-    let lang = c.args.lang.now in
-    let one : ConstraintView = constraint_of c.args.inst.now c.args.c in
-    let same : c.relation-relation.result.now ≡ relation_of lang one.relation = c.relation-relation.ensures.relation ∙ ap (relation_of lang) c.relation_of.ensures.relation in
-    let inside : c.place_of-place.result < length one.scope = subst (λ (scope : List ℕ). c.place_of-place.result < length scope) c.scope-scope.ensures.scope c.place_of-place.ensures.known in
-    let at : get_or one.scope c.place_of-place.result 0 ≡ c.args.x = subst (λ (scope : List ℕ). get_or scope c.place_of-place.result 0 ≡ c.args.x) c.scope-scope.ensures.scope c.place_of-place.ensures.at in
-    case_with lang one (long_rows lang c.args.inst.now c.args.c c.relation-relation.result.now c.requires.fits c.requires.known same c.arity-arity.ensures.relation) c.args.front.now c.args.rows.now c.requires.cases c.place_of-place.result c.args.x c.args.a inside at
-    (subst (λ (r : RelationView). HasRow r.rows c.args.rows.now c.place_of-place.result c.args.a) same c.if-not-has_row.ensures.found)
+    let inside : c.place_of-place.result < length one.scope = subst (λ (s : List ℕ). c.place_of-place.result < length s) scope c.place_of-place.ensures.known in
+    let at : get_or one.scope c.place_of-place.result 0 ≡ c.args.x = subst (λ (s : List ℕ). get_or s c.place_of-place.result 0 ≡ c.args.x) scope c.place_of-place.ensures.at in
+    record {
+      more = omega (arith, c.if-most-lt2.false);
+      cases = subst (λ (r : RelationView). AreCases r.rows one.scope (front ++ value_case c.args.x c.args.a) c.in_ok-next.next) same
+          (subst (λ (s : List ℕ). AreCases c.relation-relation.result.now.rows s (front ++ value_case c.args.x c.args.a) c.in_ok-next.next) scope
+          (c.in_ok-next.ensures.cases front
+          (subst (λ (s : List ℕ). AreCases c.relation-relation.result.now.rows s front c.args.rows.now) (sym scope)
+          (subst (λ (r : RelationView). AreCases r.rows one.scope front c.args.rows.now) (sym same) c.requires.cases))));
+      case = case_with lang one (long_rows lang c.args.inst.now c.args.c c.relation-relation.result.now c.requires.fits c.requires.known same c.arity-arity.ensures.relation) front c.args.rows.now c.requires.cases c.place_of-place.result c.args.x c.args.a inside at
+          (subst (λ (r : RelationView). HasRow r.rows c.args.rows.now c.place_of-place.result c.args.a) same c.if-not-has_row.ensures.found);
+    }
