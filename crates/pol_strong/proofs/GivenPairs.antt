@@ -1,11 +1,12 @@
 -- The pairs of the first variables with values: what is among them, and what the value of the next variable adds.
-use Rattle.std.proofs.Common.{◌≡◌, ◌≢◌, ℕ, ◌+◌, ◌-◌, ◌<◌, List, [], ◌∷◌, ◌++◌, length, Contains, arith, ap, get_or, inl, inr, refl, sym, ◌∙◌, ◌⊎◌, subst}
+use Rattle.std.proofs.Common.{All, AllPairs, take, slice_get, Some, ◌≡◌, ◌≢◌, ℕ, ◌+◌, ◌-◌, ◌<◌, List, [], ◌∷◌, ◌++◌, length, Contains, arith, ap, get_or, inl, inr, refl, sym, ◌∙◌, ◌⊎◌, subst}
 use Rattle.std.specs.List.{range_with_len}
 use Rattle.std.proofs.lemmas.Bool.{cases_eq}
-use Rattle.std.proofs.lemmas.List.{get_or_push, get_or_append_left, length_push, map-id}
-use Rattle.std.proofs.lemmas.List.Elements.{All-contains, All-from_get_or}
+use Rattle.std.proofs.lemmas.List.{length-take-le, get_or-take, get_or_push, get_or_append_left, length_push, map-id}
+use Rattle.std.proofs.lemmas.List.Elements.{All-more, All-contains, All-from_get_or}
+use Rattle.std.proofs.lemmas.Option.{get_or_from_slice_get, slice_get_within}
 use Rattle.std.proofs.lemmas.List.FromFn.{length-range_with_len, get_or-range_with_len, map-range_with_len_more}
-use Rattle.pol_nogood.specs.Nogoods.{Pair, IsNogood, IsContained}
+use Rattle.pol_nogood.specs.Nogoods.{Pair, IsContained, Holds}
 use Rattle.pol_nogood.specs.Logs.{StepView, nogood_at, reading, value_case}
 use Rattle.pol_nogood.proofs.LogCases.{pair_at, reading_place, All-reading}
 use Rattle.pol_nogood.proofs.PackedPairs.{reading_push}
@@ -69,7 +70,7 @@ given_still values b p is = record {
 
 -- ---- the last pair of a nogood
 
-module _ (n d : ℕ) (nogood : List Pair) (is : IsNogood n d nogood) (none : Pair) (values : List ℕ) where
+module _ (nogood : List Pair) (ascends : AllPairs (λ p q. p.variable < q.variable) nogood) (none : Pair) (values : List ℕ) where
   abbrev last : Pair
   last = get_or nogood (length nogood - 1) none
 
@@ -79,10 +80,10 @@ module _ (n d : ℕ) (nogood : List Pair) (is : IsNogood n d nogood) (none : Pai
       by : (k ≡ length nogood - 1) ⊎ (k ≡ length nogood - 1 → ⊥)
           → (k ≡ length nogood - 1) ⊎ ((get_or nogood k none).variable < last.variable)
       by (inl here) = inl here
-      by (inr apart) = inr (is.ascending k (length nogood - 1) none (omega arith) (omega arith))
+      by (inr apart) = inr (ascends k (length nogood - 1) none (omega arith) (omega arith))
 
   -- where the last pair is not of the next variable, the next value is of no matter
-  pub given_last : last.variable ≢ length values → IsIndifferent nogood values
+  given_last : last.variable ≢ length values → IsIndifferent nogood values
   given_last apart b within = All-from_get_or (Contains (given values)) nogood none (λ k inside.
       let there : IsGiven (values ++ b ∷ []) (get_or nogood k none)
       = given_is (values ++ b ∷ []) (get_or nogood k none) (within k none inside) in
@@ -99,17 +100,17 @@ module _ (n d : ℕ) (nogood : List Pair) (is : IsNogood n d nogood) (none : Pai
       earlier k less (inr before) = omega arith
 
   -- where a pair before the last has another value than is given, none of the next values completes the nogood
-  pub given_other : (k : ℕ) → k + 1 < length nogood → last.variable ≡ length values
+  given_other : (k : ℕ) → k + 1 < length nogood → last.variable ≡ length values
       → get_or values (get_or nogood k none).variable 0 ≢ (get_or nogood k none).value
       → IsIndifferent nogood values
   given_other k inside last_is other b within =
       let p : Pair = get_or nogood k none in
-      let less : p.variable < last.variable = is.ascending k (length nogood - 1) none (omega arith) (omega arith) in
+      let less : p.variable < last.variable = ascends k (length nogood - 1) none (omega arith) (omega arith) in
       let there : IsGiven (values ++ b ∷ []) p = given_is (values ++ b ∷ []) p (within k none (omega arith)) in
       absurd (other (given_earlier values b p (omega (arith, less, last_is)) there).value_is)
 
   -- and where the pairs before it are given, its value does
-  pub given_completes : 0 < length nogood → last.variable ≡ length values
+  given_completes : 0 < length nogood → last.variable ≡ length values
       → ((k : ℕ) → k + 1 < length nogood → get_or values (get_or nogood k none).variable 0 ≡ (get_or nogood k none).value)
       → Completes nogood values last.value
   given_completes some last_is held = record {
@@ -138,6 +139,62 @@ module _ (n d : ℕ) (nogood : List Pair) (is : IsNogood n d nogood) (none : Pai
               let equal : (get_or nogood k none).variable ≡ last.variable = ap (λ i. (get_or nogood i none).variable) here in
               absurd (omega (arith, before, equal))
           later (inr apart) = omega arith
+
+-- a nogood whose last pair was read
+module _ (nogood : List Pair) (ascends : AllPairs (λ p q. p.variable < q.variable) nogood) (p : Pair)
+    (read : slice_get nogood (length nogood - 1) ≡ Some p) (values : List ℕ) where
+  at_last : get_or nogood (length nogood - 1) p ≡ p
+  at_last = get_or_from_slice_get nogood (length nogood - 1) p p read
+
+  some_pairs : 0 < length nogood
+  some_pairs = omega (arith, slice_get_within nogood (length nogood - 1) p read)
+
+  last_variable : (get_or nogood (length nogood - 1) p).variable ≡ p.variable
+  last_variable = ap (λ (q : Pair). q.variable) at_last
+
+  -- the next value is of no matter where that pair is of another variable
+  pub indifferent_last : p.variable ≢ length values → IsIndifferent nogood values
+  indifferent_last apart = given_last nogood ascends p values (λ same. apart (sym last_variable ∙ same))
+
+  -- the pairs before it are of lower variables
+  pub below_last : (k : ℕ) (q : Pair) → slice_get nogood k ≡ Some q → k < length nogood - 1 → q.variable < p.variable
+  below_last k q there before =
+      let less : (get_or nogood k p).variable < (get_or nogood (length nogood - 1) p).variable
+      = ascends k (length nogood - 1) p before (omega arith) in
+      let here : (get_or nogood k p).variable ≡ q.variable
+      = ap (λ (r : Pair). r.variable) (get_or_from_slice_get nogood k q p there) in
+      omega (arith, less, here, last_variable)
+
+  -- nor is it where one of them is not held
+  pub indifferent_other : p.variable ≡ length values
+      → (k : ℕ) (q : Pair) → slice_get nogood k ≡ Some q → k < length nogood - 1 → get_or values q.variable 0 ≢ q.value
+      → IsIndifferent nogood values
+  indifferent_other last_is k q there before other =
+      given_other nogood ascends p values k (omega arith) (last_variable ∙ last_is)
+      (subst (λ (r : Pair). get_or values r.variable 0 ≢ r.value) (sym (get_or_from_slice_get nogood k q p there)) other)
+
+  -- and else its value completes the nogood
+  pub completes_last : p.variable ≡ length values → Holds values (take (length nogood - 1) nogood)
+      → Completes nogood values p.value
+  completes_last last_is held =
+      subst (Completes nogood values) (ap (λ (q : Pair). q.value) at_last)
+      (given_completes nogood ascends p values some_pairs (last_variable ∙ last_is) (λ k inside.
+      let before : k < length nogood - 1 = omega arith in
+      let within : k < length (take (length nogood - 1) nogood) = omega (arith, length-take-le (length nogood - 1) nogood (omega arith)) in
+      subst (λ (r : Pair). get_or values r.variable 0 ≡ r.value) (get_or-take (length nogood - 1) nogood k p before) (held k p within)))
+
+  pub last_below : (d : ℕ) → All (λ q. q.value < d) nogood → p.value < d
+  last_below d below =
+      subst (λ (q : Pair). q.value < d) at_last (below (length nogood - 1) p (slice_get_within nogood (length nogood - 1) p read))
+
+-- one more pair is held
+pub held_more : (values : List ℕ) (nogood : List Pair) (k : ℕ) (q : Pair) → slice_get nogood k ≡ Some q
+    → get_or values q.variable 0 ≡ q.value
+    → Holds values (take k nogood)
+    → Holds values (take (k + 1) nogood)
+held_more values nogood k q there is held =
+    All-more (λ (r : Pair). get_or values r.variable 0 ≡ r.value) nogood k q (slice_get_within nogood k q there) held
+    (subst (λ (r : Pair). get_or values r.variable 0 ≡ r.value) (sym (get_or_from_slice_get nogood k q q there)) is)
 
 -- ---- values that avoid a log
 

@@ -9,3 +9,4 @@ pub mod KeptSolutions
 pub mod GivenPairs
 pub mod NextValues
 pub mod ScopeCases
+pub mod OpenMasks

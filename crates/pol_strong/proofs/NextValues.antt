@@ -1,8 +1,8 @@
 -- A finished log gives a solution value by value: values that avoid it go on, and all of them together are a solution.
-use Rattle.std.proofs.Common.{◌≡◌, ◌≢◌, ℕ, suc, ◌-◌, ◌<◌, List, [], ◌∷◌, ◌++◌, length, All, Contains, arith, ap, get_or, set, replicate, inl, inr, refl, sym, ◌∙◌, ◌⊎◌, subst, length-append, append-nil}
+use Rattle.std.proofs.Common.{AllPairs, ◌+◌, ◌≡◌, ◌≢◌, ℕ, suc, ◌-◌, ◌<◌, List, [], ◌∷◌, ◌++◌, length, All, Contains, arith, ap, get_or, set, replicate, inl, inr, refl, sym, ◌∙◌, ◌⊎◌, subst, length-append, append-nil}
 use Rattle.std.proofs.lemmas.Bool.{cases_eq}
 use Rattle.std.proofs.lemmas.List.{get_or_push, get_or_append_left, length_push, length-replicate, get_or-set_same, get_or-set_other}
-use Rattle.std.proofs.lemmas.List.Elements.{All-append, All-replicate, All-from_get_or}
+use Rattle.std.proofs.lemmas.List.Elements.{All-push, All-nil, All-append, All-replicate, All-from_get_or}
 use Rattle.pol_base.specs.Tuples.{IsTuple}
 use Rattle.pol_relation.specs.Relations.{LanguageView, IsLanguage}
 use Rattle.pol_relation.specs.Instances.{InstanceView, Fits, IsSolution}
@@ -37,10 +37,39 @@ pub record NextValue (d : ℕ) (log : List StepView) (values : List ℕ) : Type 
   pub below : value < d
   pub avoids : Avoids log (values ++ value ∷ [])
 
+-- values of the first variables that avoid the log
+pub record IsBegun (d : ℕ) (log : List StepView) (count : ℕ) (values : List ℕ) : Type 0 where
+  pub tuple : IsTuple d count values
+  pub avoids : Avoids log values
+
+pub begun_push : (d : ℕ) (log : List StepView) (count : ℕ) (values : List ℕ) (value : ℕ) → IsBegun d log count values
+    → value < d
+    → Avoids log (values ++ value ∷ [])
+    → IsBegun d log (count + 1) (values ++ value ∷ [])
+begun_push d log count values value begun below avoids = record {
+  tuple = record {
+    long = omega (arith, begun.tuple.long, length_push values value);
+    below = All-push (λ v. v < d) values value begun.tuple.below below;
+  };
+  avoids = avoids;
+}
+
 module _ (lang : LanguageView) (good : IsLanguage lang) (inst : InstanceView) (fits : Fits lang inst) (log : List StepView)
     (decided : IsDecided lang inst log) where
   abbrev n : ℕ
   n = length inst.variables
+
+  pub log_ascends : All (λ s. AllPairs (λ p q. p.variable < q.variable) s.nogood) log
+  log_ascends =
+      All-from_get_or (λ (s : StepView). AllPairs (λ p q. p.variable < q.variable) s.nogood) log no_step
+      (λ i inside. (decided.finished.valid i inside).placed.is_nogood.ascending)
+
+  pub log_below : All (λ s. All (λ p. p.value < 5) s.nogood) log
+  log_below =
+      All-from_get_or (λ (s : StepView). All (λ p. p.value < 5) s.nogood) log no_step
+      (λ i inside k e within.
+      let pair = (decided.finished.valid i inside).placed.is_nogood.pairs k e within in
+      omega (arith, pair.value_known, good.domain_is.few))
 
   -- no value avoids it
   pub avoided_none : Avoids log []
@@ -96,6 +125,12 @@ module _ (lang : LanguageView) (good : IsLanguage lang) (inst : InstanceView) (f
                   let before : p.variable < length values = omega (arith, apart, is.below, length_push values next.value) in
                   get_or-set_other whole (length values) p.variable next.value 0 apart
                   ∙ (same p.variable before ∙ sym (get_or_append_left values (next.value ∷ []) 0 p.variable before))
+
+  pub begun_none : IsBegun lang.domain log 0 []
+  begun_none = record {
+    tuple = record { long = refl; below = All-nil (λ v. v < lang.domain) };
+    avoids = avoided_none;
+  }
 
   -- values of all variables that avoid it are a solution
   pub avoided_solution : (values : List ℕ) → IsTuple lang.domain n values → Avoids log values → IsSolution lang inst values

@@ -1,10 +1,10 @@
 -- A log is finished where each constraint has cases on its own scope, each nogood with a pair has open values, and each
 -- variable has a value that is left.
-use Rattle.std.proofs.Common.{◌≡◌, ◌≢◌, ℕ, suc, ◌+◌, ◌-◌, ◌<◌, ◌≤◌, Bool, true, not, List, [], ◌∷◌, ◌++◌, length, All, Contains, filter, arith, ap, get_or, inl, inr, refl, sym, ◌⊎◌, subst}
+use Rattle.std.proofs.Common.{◌≡◌, ◌≢◌, ℕ, ◌<◌, Bool, true, not, List, [], ◌∷◌, ◌++◌, length, All, Contains, filter, arith, ap, get_or, inl, inr, refl, sym, ◌⊎◌, subst}
 use Rattle.std.specs.Prelude.{◌==◌}
 use Rattle.std.specs.List.{list_any}
 use Rattle.std.proofs.lemmas.Bool.{eqb-true, eq-eqb}
-use Rattle.std.proofs.lemmas.List.Elements.{Contains-get_or, All-contains, All-head, All-filter, All-weaker, Contains-append_cases, Contains-append_left, Contains-append_right, All-contains_itself, filter_passes}
+use Rattle.std.proofs.lemmas.List.Elements.{Contains-get_or, All-contains, All-filter, All-weaker, Contains-append_cases, Contains-append_left, Contains-append_right, All-contains_itself, filter_passes}
 use Rattle.std.proofs.lemmas.List.Filters.{length-filter_both}
 use Rattle.std.proofs.lemmas.List.Folds.{Any-from_list_any, list_any_at}
 use Rattle.std.proofs.lemmas.List.Kept.{AllPairs-filter}
@@ -12,7 +12,7 @@ use Rattle.pol_base.proofs.MemberLemmas.{Contains-here, Contains-there, Contains
 use Rattle.pol_relation.specs.Relations.{LanguageView}
 use Rattle.pol_relation.specs.Instances.{InstanceView, ConstraintView}
 use Rattle.pol_nogood.specs.Nogoods.{Pair, IsPair, IsNogood, IsContained}
-use Rattle.pol_nogood.specs.Logs.{StepView, no_step, nogood_at, reading, is_case, value_case}
+use Rattle.pol_nogood.specs.Logs.{StepView, no_step, nogood_at, reading, is_case}
 use Rattle.pol_nogood.specs.ValidLogs.{AreValid}
 use Rattle.pol_nogood.proofs.LogCases.{Agree, case_from_test, test_from_case}
 use Rattle.pol_nogood.proofs.LogMaking.{IsContained-trans}
@@ -137,24 +137,6 @@ open_none lang inst log valid nonempty v left = record {
       (nonempty found.step no_step found.known) found.within);
 }
 
--- all small nogoods that have a pair go on from their first one
-pub all_open : (n d most : ℕ) (log : List StepView)
-    → ((x a : ℕ) → x < n → a < d → (more : List Pair)
-    → IsNogood n d (value_case x a ++ more)
-    → All (λ p. x + 1 ≤ p.variable) more
-    → length more ≤ most - 1
-    → ¬ IsContradicted log (value_case x a ++ more)
-    → AreOpen n d log (value_case x a ++ more))
-    → AllOpen n d most log
-all_open n d most log from [] small some free = absurd (some refl)
-all_open n d most log from (p ∷ more) small some free =
-    let first : IsPair n d p = All-head (IsPair n d) p more small.is_nogood.pairs in
-    let behind : All (λ q. p.variable + 1 ≤ q.variable) more = λ k e inside.
-    let less : p.variable < (get_or more k e).variable = small.is_nogood.ascending 0 (suc k) e (omega arith) (omega arith) in
-    omega (arith, less) in
-    let few : length more ≤ most - 1 = let short : suc (length more) ≤ most = small.few in omega arith in
-    from p.variable p.value first.variable_known first.value_known more small.is_nogood behind few free
-
 -- ---- all of it
 
 pub all_settled : (lang : LanguageView) (inst : InstanceView) (most : ℕ) (log : List StepView) → AreValid lang inst log
@@ -171,7 +153,4 @@ all_settled lang inst most log valid nonempty open_values left cases nogood smal
     by : (nogood : List Pair) → IsSmall (length inst.variables) lang.domain most nogood → ¬ IsContradicted log nogood
         → AreOpen (length inst.variables) lang.domain log nogood
     by [] small free = λ v known apart. open_none lang inst log valid nonempty v (left v known)
-    by (p ∷ rest) small free = open_values (p ∷ rest) small (has_pair p rest) free
-      where
-        has_pair : (p : Pair) (rest : List Pair) → p ∷ rest ≢ []
-        has_pair p rest same = absurd (omega (arith, ap (length {A = Pair}) same))
+    by (p ∷ rest) small free = open_values (p ∷ rest) small (omega arith) free

@@ -1,2 +1,4 @@
 //! Strong consistency: instances over a language with a near unanimity operation.
 #![tactic(auto)]
+
+mod values;
