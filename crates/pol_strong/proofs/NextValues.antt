@@ -109,8 +109,10 @@ module _ (lang : LanguageView) (good : IsLanguage lang) (inst : InstanceView) (f
         where
           held : (p : Pair) → IsGiven (values ++ next.value ∷ []) p
               → Contains (firsts (suc (length values))) p.variable × (get_or (set whole (length values) next.value) p.variable 0 ≡ p.value)
-          held p is = (in_firsts (suc (length values)) p.variable (omega (arith, is.below, length_push values next.value)),
-              by (cases_eq p.variable (length values)) ∙ is.value_is)
+          held p is = (
+            in_firsts (suc (length values)) p.variable (omega (arith, is.below, length_push values next.value)),
+            by (cases_eq p.variable (length values)) ∙ is.value_is,
+          )
             where
               v : ℕ
               v = length values

@@ -75,6 +75,8 @@ module _ (d : ℕ) (log : List StepView) (values : List ℕ) where
       λ has. let kept = (others b).0 has in
           let old = (opens b).0 kept.0 in
           (old.0, more b old.1 (λ within. kept.1 (completes.only b within))),
-      λ both. (others b).1 ((opens b).1 (both.0, λ i less. both.1 i (omega arith)),
-          λ same. both.1 s (omega arith) (subst (λ (v : ℕ). IsContained (nogood_at log s) (given (values ++ v ∷ []))) (sym same) completes.completed)),
+      λ both. (others b).1 (
+        (opens b).1 (both.0, λ i less. both.1 i (omega arith)),
+        λ same. both.1 s (omega arith) (subst (λ (v : ℕ). IsContained (nogood_at log s) (given (values ++ v ∷ []))) (sym same) completes.completed),
+      ),
     )

@@ -68,10 +68,10 @@ case_on_scope scope row nogood passes = test_from_case scope nogood row (λ k d 
     let agrees : All (Agree p) (reading scope row ++ on_scope scope nogood)
     = case_from_test scope (on_scope scope nogood) row passes k d inside in
     λ j e within same.
-        let q : Pair = get_or (reading scope row ++ nogood) j e in
-        All-contains (Agree p) (reading scope row ++ on_scope scope nogood) q agrees
-        (kept p q (reading_on scope row p read) same
-        (Contains-append_cases (reading scope row) nogood q (Contains-get_or (reading scope row ++ nogood) j e within))) same)
+    let q : Pair = get_or (reading scope row ++ nogood) j e in
+    All-contains (Agree p) (reading scope row ++ on_scope scope nogood) q agrees
+    (kept p q (reading_on scope row p read) same
+    (Contains-append_cases (reading scope row) nogood q (Contains-get_or (reading scope row ++ nogood) j e within))) same)
   where
     kept : (p q : Pair) → Contains scope p.variable → p.variable ≡ q.variable → Contains (reading scope row) q ⊎ Contains nogood q
         → Contains (reading scope row ++ on_scope scope nogood) q

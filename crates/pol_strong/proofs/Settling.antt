@@ -143,8 +143,8 @@ module _ (lang : LanguageView) (inst : InstanceView) (most : ℕ) (log : List St
       record {
         is_nogood = record {
           pairs = All-map (IsPair n lang.domain) (assigned a) (in_order n vars) (λ i d h. record {
-              variable_known = among i d h;
-              value_known = is.below (get_or (in_order n vars) i d) 0 (rw is.long (among i d h));
+            variable_known = among i d h;
+            value_known = is.below (get_or (in_order n vars) i d) 0 (rw is.long (among i d h));
           });
           ascending = λ i j d less inside.
               let within : j < length (in_order n vars) = omega (arith, length-map (in_order n vars) (assigned a)) in
@@ -160,40 +160,42 @@ module _ (lang : LanguageView) (inst : InstanceView) (most : ℕ) (log : List St
       settled (assigned_pairs a (in_order n vars)) (part_small vars a is known short) (kept_free log a (in_order n vars) vars (in_order-among n vars) kept)
 
   pub settled_extends : Extends lang.domain n most (KeptBy log)
-  settled_extends = record { more = λ vars a v is known short kept further new.
-      let xs : List ℕ = in_order n vars in
-      let s : IsSettled lang inst log (assigned_pairs a xs) = part_settled vars a is known short kept in
-      let other : All (λ p. p.variable ≢ v) (assigned_pairs a xs)
-      = All-map (λ p. p.variable ≢ v) (assigned a) xs (λ i d h same.
-      new (in_order-among n vars v (subst (Contains xs) same (Contains-get_or xs i d h)))) in
-      let x : IsOpen lang.domain log (assigned_pairs a xs) v = s.values v further other in
-      record {
-        value = x.value;
-        below = x.below;
-        kept = kept_more log a xs vars v x.value (among-in_order n vars known) (rw is.long further) x.free;
-      }
+  settled_extends = record {
+    more = λ vars a v is known short kept further new.
+        let xs : List ℕ = in_order n vars in
+        let s : IsSettled lang inst log (assigned_pairs a xs) = part_settled vars a is known short kept in
+        let other : All (λ p. p.variable ≢ v) (assigned_pairs a xs)
+        = All-map (λ p. p.variable ≢ v) (assigned a) xs (λ i d h same.
+        new (in_order-among n vars v (subst (Contains xs) same (Contains-get_or xs i d h)))) in
+        let x : IsOpen lang.domain log (assigned_pairs a xs) v = s.values v further other in
+        record {
+          value = x.value;
+          below = x.below;
+          kept = kept_more log a xs vars v x.value (among-in_order n vars known) (rw is.long further) x.free;
+        };
   }
 
   pub settled_breaks_none : IsLanguage lang → Fits lang inst → BreaksNone lang inst most (KeptBy log)
-  settled_breaks_none good fits = record { support = λ c vars a inside is known short kept.
-      let xs : List ℕ = in_order n vars in
-      let k : ConstraintView = constraint_of inst c in
-      let fit : FitsAt lang n k = fits c no_constraint inside in
-      let case : HasCase lang k (assigned_pairs a xs) = (part_settled vars a is known short kept).cases c no_constraint inside in
-      let over : IsRelationOver lang.domain (relation_of lang k.relation) = good.relations_are k.relation no_named fit.known in
-      let tuple : IsTuple (relation_of lang k.relation).domain (relation_of lang k.relation).arity case.row
-      = All-contains (IsTuple (relation_of lang k.relation).domain (relation_of lang k.relation).arity) (rows_of lang k.relation) case.row over.is_relation.tuples case.listed in
-      let places : IsCaseByPlace k.scope (assigned_pairs a xs) case.row
-      = places_from_case k.scope (assigned_pairs a xs) case.row (tuple.long ∙ sym fit.long) case.is in
-      record {
-        row = case.row;
-        listed = case.listed;
-        reads = record {
-          one_value = places.repeats;
-          same = λ i within counts.
-              let x : ℕ = get_or k.scope i 0 in
-              All-contains (λ (q : Pair). x ≡ q.variable → get_or case.row i 0 ≡ q.value) (assigned_pairs a xs) (assigned a x)
-              (places.agrees i within) (in_map (assigned a) xs x (among-in_order n vars known x counts)) refl;
+  settled_breaks_none good fits = record {
+    support = λ c vars a inside is known short kept.
+        let xs : List ℕ = in_order n vars in
+        let k : ConstraintView = constraint_of inst c in
+        let fit : FitsAt lang n k = fits c no_constraint inside in
+        let case : HasCase lang k (assigned_pairs a xs) = (part_settled vars a is known short kept).cases c no_constraint inside in
+        let over : IsRelationOver lang.domain (relation_of lang k.relation) = good.relations_are k.relation no_named fit.known in
+        let tuple : IsTuple (relation_of lang k.relation).domain (relation_of lang k.relation).arity case.row
+        = All-contains (IsTuple (relation_of lang k.relation).domain (relation_of lang k.relation).arity) (rows_of lang k.relation) case.row over.is_relation.tuples case.listed in
+        let places : IsCaseByPlace k.scope (assigned_pairs a xs) case.row
+        = places_from_case k.scope (assigned_pairs a xs) case.row (tuple.long ∙ sym fit.long) case.is in
+        record {
+          row = case.row;
+          listed = case.listed;
+          reads = record {
+            one_value = places.repeats;
+            same = λ i within counts.
+                let x : ℕ = get_or k.scope i 0 in
+                All-contains (λ (q : Pair). x ≡ q.variable → get_or case.row i 0 ≡ q.value) (assigned_pairs a xs) (assigned a x)
+                (places.agrees i within) (in_map (assigned a) xs x (among-in_order n vars known x counts)) refl;
+          };
         };
-      }
   }
