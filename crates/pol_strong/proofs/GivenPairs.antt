@@ -55,7 +55,8 @@ given_push values b =
     ∙ reading_push (range_with_len 0 n) values n b (sym (length-range_with_len 0 n)))
 
 -- the pair of an earlier variable was given before
-given_earlier : (values : List ℕ) (b : ℕ) (p : Pair) → p.variable < length values → IsGiven (values ++ b ∷ []) p → IsGiven values p
+given_earlier : (values : List ℕ) (b : ℕ) (p : Pair) → p.variable < length values → IsGiven (values ++ b ∷ []) p
+    → IsGiven values p
 given_earlier values b p earlier is = record {
   below = earlier;
   value_is = sym (get_or_append_left values (b ∷ []) 0 p.variable earlier) ∙ is.value_is;
@@ -70,11 +71,13 @@ given_still values b p is = record {
 
 -- ---- the last pair of a nogood
 
-module _ (nogood : List Pair) (ascends : AllPairs (λ p q. p.variable < q.variable) nogood) (none : Pair) (values : List ℕ) where
+module _ (nogood : List Pair) (ascends : AllPairs (λ p q. p.variable < q.variable) nogood) (none : Pair)
+    (values : List ℕ) where
   abbrev last : Pair
   last = get_or nogood (length nogood - 1) none
 
-  before_last : (k : ℕ) → k < length nogood → (k ≡ length nogood - 1) ⊎ ((get_or nogood k none).variable < last.variable)
+  before_last : (k : ℕ) → k < length nogood
+      → (k ≡ length nogood - 1) ⊎ ((get_or nogood k none).variable < last.variable)
   before_last k inside = by (cases_eq k (length nogood - 1))
     where
       by : (k ≡ length nogood - 1) ⊎ (k ≡ length nogood - 1 → ⊥)
@@ -111,7 +114,8 @@ module _ (nogood : List Pair) (ascends : AllPairs (λ p q. p.variable < q.variab
 
   -- and where the pairs before it are given, its value does
   given_completes : 0 < length nogood → last.variable ≡ length values
-      → ((k : ℕ) → k + 1 < length nogood → get_or values (get_or nogood k none).variable 0 ≡ (get_or nogood k none).value)
+      → ((k : ℕ) → k + 1 < length nogood
+      → get_or values (get_or nogood k none).variable 0 ≡ (get_or nogood k none).value)
       → Completes nogood values last.value
   given_completes some last_is held = record {
     completed = All-from_get_or (Contains (given (values ++ last.value ∷ []))) nogood none (λ k inside.
@@ -124,10 +128,11 @@ module _ (nogood : List Pair) (ascends : AllPairs (λ p q. p.variable < q.variab
     where
       by : (k : ℕ) → k < length nogood → (k ≡ length nogood - 1) ⊎ ((get_or nogood k none).variable < last.variable)
           → IsGiven (values ++ last.value ∷ []) (get_or nogood k none)
-      by k inside (inl here) = subst (λ i. IsGiven (values ++ last.value ∷ []) (get_or nogood i none)) (sym here) (record {
-        below = omega (arith, last_is, length_push values last.value);
-        value_is = get_or_push values last.value 0 last.variable (sym last_is);
-      })
+      by k inside (inl here) = subst (λ i. IsGiven (values ++ last.value ∷ []) (get_or nogood i none)) (sym here)
+          (record {
+            below = omega (arith, last_is, length_push values last.value);
+            value_is = get_or_push values last.value 0 last.variable (sym last_is);
+          })
       by k inside (inr before) = given_still values last.value (get_or nogood k none) (record {
         below = omega (arith, before, last_is);
         value_is = held k (later (cases_eq (k + 1) (length nogood)));
@@ -136,7 +141,8 @@ module _ (nogood : List Pair) (ascends : AllPairs (λ p q. p.variable < q.variab
           later : (k + 1 ≡ length nogood) ⊎ (k + 1 ≡ length nogood → ⊥) → k + 1 < length nogood
           later (inl same) =
               let here : k ≡ length nogood - 1 = omega arith in
-              let equal : (get_or nogood k none).variable ≡ last.variable = ap (λ i. (get_or nogood i none).variable) here in
+              let equal : (get_or nogood k none).variable ≡ last.variable
+              = ap (λ i. (get_or nogood i none).variable) here in
               absurd (omega (arith, before, equal))
           later (inr apart) = omega arith
 
@@ -171,7 +177,8 @@ module _ (nogood : List Pair) (ascends : AllPairs (λ p q. p.variable < q.variab
       → IsIndifferent nogood values
   indifferent_other last_is k q there before other =
       given_other nogood ascends p values k (omega arith) (last_variable ∙ last_is)
-      (subst (λ (r : Pair). get_or values r.variable 0 ≢ r.value) (sym (get_or_from_slice_get nogood k q p there)) other)
+      (subst (λ (r : Pair). get_or values r.variable 0 ≢ r.value)
+      (sym (get_or_from_slice_get nogood k q p there)) other)
 
   -- and else its value completes the nogood
   pub completes_last : p.variable ≡ length values → Holds values (take (length nogood - 1) nogood)
@@ -180,12 +187,15 @@ module _ (nogood : List Pair) (ascends : AllPairs (λ p q. p.variable < q.variab
       subst (Completes nogood values) (ap (λ (q : Pair). q.value) at_last)
       (given_completes nogood ascends p values some_pairs (last_variable ∙ last_is) (λ k inside.
       let before : k < length nogood - 1 = omega arith in
-      let within : k < length (take (length nogood - 1) nogood) = omega (arith, length-take-le (length nogood - 1) nogood (omega arith)) in
-      subst (λ (r : Pair). get_or values r.variable 0 ≡ r.value) (get_or-take (length nogood - 1) nogood k p before) (held k p within)))
+      let within : k < length (take (length nogood - 1) nogood)
+      = omega (arith, length-take-le (length nogood - 1) nogood (omega arith)) in
+      subst (λ (r : Pair). get_or values r.variable 0 ≡ r.value)
+      (get_or-take (length nogood - 1) nogood k p before) (held k p within)))
 
   pub last_below : (d : ℕ) → All (λ q. q.value < d) nogood → p.value < d
   last_below d below =
-      subst (λ (q : Pair). q.value < d) at_last (below (length nogood - 1) p (slice_get_within nogood (length nogood - 1) p read))
+      subst (λ (q : Pair). q.value < d) at_last
+      (below (length nogood - 1) p (slice_get_within nogood (length nogood - 1) p read))
 
 -- one more pair is held
 pub held_more : (values : List ℕ) (nogood : List Pair) (k : ℕ) (q : Pair) → slice_get nogood k ≡ Some q
@@ -202,7 +212,8 @@ held_more values nogood k q there is held =
 pub avoided_push : (log : List StepView) (values : List ℕ) (b : ℕ)
     → ¬ IsContradicted log (given values ++ value_case (length values) b)
     → Avoids log (values ++ b ∷ [])
-avoided_push log values b free = subst (λ (pairs : List Pair). ¬ IsContradicted log pairs) (sym (given_push values b)) free
+avoided_push log values b free = subst (λ (pairs : List Pair). ¬ IsContradicted log pairs)
+    (sym (given_push values b)) free
 
 -- and so where each step of the log says so
 pub avoided_steps : (log : List StepView) (values : List ℕ)

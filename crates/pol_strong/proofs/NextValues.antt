@@ -16,9 +16,11 @@ use Rattle.pol_strong.proofs.GivenPairs.{IsGiven, in_given, given_is}
 use Rattle.pol_strong.proofs.KeptSolutions.{kept_next, kept_all}
 
 -- an assignment that begins with values that avoid the log is kept at their variables
-avoided_kept : (log : List StepView) (values more : List ℕ) → Avoids log values → KeptBy log (firsts (length values)) (values ++ more)
+avoided_kept : (log : List StepView) (values more : List ℕ) → Avoids log values
+    → KeptBy log (firsts (length values)) (values ++ more)
 avoided_kept log values more avoids =
-    All-from_get_or (λ (s : StepView). ¬ HeldAt (firsts (length values)) (values ++ more) s.nogood) log no_step (λ i inside held.
+    All-from_get_or (λ (s : StepView). ¬ HeldAt (firsts (length values)) (values ++ more) s.nogood) log no_step
+    (λ i inside held.
     avoids (record {
       step = i;
       known = inside;
@@ -54,7 +56,8 @@ begun_push d log count values value begun below avoids = record {
   avoids = avoids;
 }
 
-module _ (lang : LanguageView) (good : IsLanguage lang) (inst : InstanceView) (fits : Fits lang inst) (log : List StepView)
+module _ (lang : LanguageView) (good : IsLanguage lang) (inst : InstanceView) (fits : Fits lang inst)
+    (log : List StepView)
     (decided : IsDecided lang inst log) where
   abbrev n : ℕ
   n = length inst.variables
@@ -73,7 +76,8 @@ module _ (lang : LanguageView) (good : IsLanguage lang) (inst : InstanceView) (f
 
   -- no value avoids it
   pub avoided_none : Avoids log []
-  avoided_none found = by (nogood_at log found.step) (decided.finished.nonempty found.step no_step found.known) found.within
+  avoided_none found = by (nogood_at log found.step)
+      (decided.finished.nonempty found.step no_step found.known) found.within
     where
       by : (nogood : List Pair) → nogood ≢ [] → IsContained nogood (given []) → ⊥
       by [] some within = some refl
@@ -93,7 +97,8 @@ module _ (lang : LanguageView) (good : IsLanguage lang) (inst : InstanceView) (f
             (All-replicate (λ v. v < lang.domain) (n - length values) 0 good.domain_is.some);
       } in
       from whole long (λ j h. get_or_append_left values more 0 j h)
-      (kept_next lang decided.most decided.operation decided.is_near good inst fits log decided.finished whole tuple (length values) further
+      (kept_next lang decided.most decided.operation decided.is_near good inst fits log decided.finished whole
+      tuple (length values) further
       (avoided_kept log values more avoids))
     where
       from : (whole : List ℕ) → length whole ≡ n → ((j : ℕ) → j < length values → get_or whole j 0 ≡ get_or values j 0)
@@ -108,7 +113,8 @@ module _ (lang : LanguageView) (good : IsLanguage lang) (inst : InstanceView) (f
       }
         where
           held : (p : Pair) → IsGiven (values ++ next.value ∷ []) p
-              → Contains (firsts (suc (length values))) p.variable × (get_or (set whole (length values) next.value) p.variable 0 ≡ p.value)
+              → Contains (firsts (suc (length values)))
+              p.variable × (get_or (set whole (length values) next.value) p.variable 0 ≡ p.value)
           held p is = (
             in_firsts (suc (length values)) p.variable (omega (arith, is.below, length_push values next.value)),
             by (cases_eq p.variable (length values)) ∙ is.value_is,
@@ -118,13 +124,15 @@ module _ (lang : LanguageView) (good : IsLanguage lang) (inst : InstanceView) (f
               v = length values
 
               by : (p.variable ≡ length values) ⊎ (p.variable ≡ length values → ⊥)
-                  → get_or (set whole (length values) next.value) p.variable 0 ≡ get_or (values ++ next.value ∷ []) p.variable 0
+                  → get_or (set whole (length values) next.value) p.variable 0 ≡ get_or
+                  (values ++ next.value ∷ []) p.variable 0
               by (inl last) =
                   ap (λ x. get_or (set whole (length values) next.value) x 0) last
                   ∙ (get_or-set_same whole (length values) next.value 0 (omega (arith, long, further))
                   ∙ sym (get_or_push values next.value 0 p.variable (sym last)))
               by (inr apart) =
-                  let before : p.variable < length values = omega (arith, apart, is.below, length_push values next.value) in
+                  let before : p.variable < length values
+                  = omega (arith, apart, is.below, length_push values next.value) in
                   get_or-set_other whole (length values) p.variable next.value 0 apart
                   ∙ (same p.variable before ∙ sym (get_or_append_left values (next.value ∷ []) 0 p.variable before))
 
@@ -135,7 +143,8 @@ module _ (lang : LanguageView) (good : IsLanguage lang) (inst : InstanceView) (f
   }
 
   -- values of all variables that avoid it are a solution
-  pub avoided_solution : (values : List ℕ) → IsTuple lang.domain n values → Avoids log values → IsSolution lang inst values
+  pub avoided_solution : (values : List ℕ) → IsTuple lang.domain n values → Avoids log values
+      → IsSolution lang inst values
   avoided_solution values tuple avoids =
       kept_all lang decided.most decided.operation decided.is_near good inst fits log decided.finished values tuple
       (rw tuple.long at (whole_kept values (avoided_kept log values [] avoids)))

@@ -36,16 +36,22 @@ module _ (d : ℕ) (log : List StepView) (values : List ℕ) where
   open_none b = (λ has. ((full_set d b).0 has, λ s less. absurd (omega (arith, less))), λ both. (full_set d b).1 both.0)
 
   -- the values that avoid the log are the mask of all its steps
-  pub open_avoids : (mask : ℕ) → AreOpenNext d log (length log) values mask → (b : ℕ) → IsBitSet mask b ↔ ((b < d) × Avoids log (values ++ b ∷ []))
+  pub open_avoids : (mask : ℕ) → AreOpenNext d log (length log) values mask → (b : ℕ)
+      → IsBitSet mask b ↔ ((b < d) × Avoids log (values ++ b ∷ []))
   open_avoids mask opens b = (
     λ has. let both = (opens b).0 has in (both.0, λ found. both.1 found.step found.known found.within),
     λ both. (opens b).1 (both.0, λ s known within. both.1 (record { step = s; known = known; within = within })),
   )
 
   -- one of the values gives a mask of values below 5
-  pub open_is_mask : (count mask b : ℕ) → IsDomain d → AreOpenNext d log count values mask → IsBitSet mask b → IsMask 5 mask
+  pub open_is_mask : (count mask b : ℕ) → IsDomain d → AreOpenNext d log count values mask → IsBitSet mask b
+      → IsMask 5 mask
   open_is_mask count mask b domain opens has =
-      mask_more d 5 mask domain.few (record { some = set_pos mask b has; below = mask_below d mask (λ b has. ((opens b).0 has).0) })
+      mask_more d 5 mask domain.few (record {
+        some = set_pos mask b has;
+        below = mask_below d mask
+            (λ b has. ((opens b).0 has).0);
+      })
 
   -- one step more
   module _ (s mask : ℕ) (opens : AreOpenNext d log s values mask) where
@@ -77,6 +83,8 @@ module _ (d : ℕ) (log : List StepView) (values : List ℕ) where
           (old.0, more b old.1 (λ within. kept.1 (completes.only b within))),
       λ both. (others b).1 (
         (opens b).1 (both.0, λ i less. both.1 i (omega arith)),
-        λ same. both.1 s (omega arith) (subst (λ (v : ℕ). IsContained (nogood_at log s) (given (values ++ v ∷ []))) (sym same) completes.completed),
+        λ same. both.1 s (omega arith)
+            (subst (λ (v : ℕ). IsContained (nogood_at log s) (given (values ++ v ∷ [])))
+            (sym same) completes.completed),
       ),
     )

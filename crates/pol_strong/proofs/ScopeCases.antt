@@ -20,7 +20,8 @@ use Rattle.pol_strong.specs.Contradictions.{IsContradicted, IsOpen, AreOpen, Has
 use Rattle.pol_strong.specs.Finished.{IsSmall, AllSettled, HasScopeCases, AllOpen, HasValue}
 
 -- what contains a nogood of the log in a part of it does as a whole
-pub contradicted_within : (log : List StepView) (some nogood : List Pair) → IsContained some nogood → IsContradicted log some
+pub contradicted_within : (log : List StepView) (some nogood : List Pair) → IsContained some nogood
+    → IsContradicted log some
     → IsContradicted log nogood
 contradicted_within log some nogood inside found = record {
   step = found.step;
@@ -39,7 +40,8 @@ on_scope scope nogood = filter (is_on scope) nogood
 
 is_on-true : (scope : List ℕ) (p : Pair) → Contains scope p.variable → is_on scope p ≡ true
 is_on-true scope p inside =
-    list_any_at (λ y. y == p.variable) scope inside.0 p.variable inside.1 (eq-eqb (get_or scope inside.0 p.variable) p.variable inside.2)
+    list_any_at (λ y. y == p.variable) scope inside.0 p.variable inside.1
+    (eq-eqb (get_or scope inside.0 p.variable) p.variable inside.2)
 
 true-is_on : (scope : List ℕ) (p : Pair) → is_on scope p ≡ true → Contains scope p.variable
 true-is_on scope p passes =
@@ -51,7 +53,8 @@ true-is_on scope p passes =
 reading_on : (scope row : List ℕ) (p : Pair) → Contains (reading scope row) p → Contains scope p.variable
 reading_on [] row p inside = absurd (Contains-nil p inside)
 reading_on (x ∷ scope) [] p inside = absurd (Contains-nil p inside)
-reading_on (x ∷ scope) (v ∷ row) p inside = by (Contains-cons_cases (record { variable = x; value = v }) p (reading scope row) inside)
+reading_on (x ∷ scope) (v ∷ row) p inside = by
+    (Contains-cons_cases (record { variable = x; value = v }) p (reading scope row) inside)
     (reading_on scope row p)
   where
     by : (record { variable = x; value = v } ≡ p) ⊎ Contains (reading scope row) p
@@ -61,7 +64,8 @@ reading_on (x ∷ scope) (v ∷ row) p inside = by (Contains-cons_cases (record 
     by (inr later) rest = Contains-there x p.variable scope (rest later)
 
 -- a row that is a case of the pairs on the scope is one of the whole nogood
-case_on_scope : (scope row : List ℕ) (nogood : List Pair) → is_case scope (on_scope scope nogood) row ≡ true → is_case scope nogood row ≡ true
+case_on_scope : (scope row : List ℕ) (nogood : List Pair) → is_case scope (on_scope scope nogood) row ≡ true
+    → is_case scope nogood row ≡ true
 case_on_scope scope row nogood passes = test_from_case scope nogood row (λ k d inside.
     let p : Pair = get_or (reading scope row) k d in
     let read : Contains (reading scope row) p = Contains-get_or (reading scope row) k d inside in
@@ -71,9 +75,11 @@ case_on_scope scope row nogood passes = test_from_case scope nogood row (λ k d 
     let q : Pair = get_or (reading scope row ++ nogood) j e in
     All-contains (Agree p) (reading scope row ++ on_scope scope nogood) q agrees
     (kept p q (reading_on scope row p read) same
-    (Contains-append_cases (reading scope row) nogood q (Contains-get_or (reading scope row ++ nogood) j e within))) same)
+    (Contains-append_cases (reading scope row) nogood q
+    (Contains-get_or (reading scope row ++ nogood) j e within))) same)
   where
-    kept : (p q : Pair) → Contains scope p.variable → p.variable ≡ q.variable → Contains (reading scope row) q ⊎ Contains nogood q
+    kept : (p q : Pair) → Contains scope p.variable → p.variable ≡ q.variable
+        → Contains (reading scope row) q ⊎ Contains nogood q
         → Contains (reading scope row ++ on_scope scope nogood) q
     kept p q on same (inl read) = Contains-append_left (reading scope row) (on_scope scope nogood) q read
     kept p q on same (inr inside) =
@@ -91,20 +97,26 @@ scope_cases lang inst most log c has nogood small free =
     let is_small : IsSmall n lang.domain most some = record {
       is_nogood = record {
         pairs = All-filter (is_on c.scope) (IsPair n lang.domain) nogood small.is_nogood.pairs;
-        ascending = AllPairs-filter (λ (p q : Pair). p.variable < q.variable) (is_on c.scope) nogood small.is_nogood.ascending;
+        ascending = AllPairs-filter (λ (p q : Pair). p.variable < q.variable)
+            (is_on c.scope) nogood small.is_nogood.ascending;
       };
-      few = let both = length-filter_both (is_on c.scope) (λ p. not (is_on c.scope p)) (λ p. refl) nogood in omega (arith, both, small.few);
+      few = let both = length-filter_both (is_on c.scope) (λ p. not (is_on c.scope p)) (λ p. refl) nogood in omega
+          (arith, both, small.few);
     } in
     let on : All (λ p. Contains c.scope p.variable) some
-    = All-weaker (λ p. is_on c.scope p ≡ true) (λ p. Contains c.scope p.variable) (true-is_on c.scope) some (filter_passes (is_on c.scope) nogood) in
-    let inside : IsContained some nogood = All-filter (is_on c.scope) (Contains nogood) nogood (All-contains_itself nogood) in
-    let case : HasCase lang c some = has some is_small on (λ found. free (contradicted_within log some nogood inside found)) in
+    = All-weaker (λ p. is_on c.scope p ≡ true) (λ p. Contains c.scope p.variable) (true-is_on c.scope) some
+    (filter_passes (is_on c.scope) nogood) in
+    let inside : IsContained some nogood
+    = All-filter (is_on c.scope) (Contains nogood) nogood (All-contains_itself nogood) in
+    let case : HasCase lang c some
+    = has some is_small on (λ found. free (contradicted_within log some nogood inside found)) in
     record { row = case.row; listed = case.listed; is = case_on_scope c.scope case.row nogood case.is }
 
 -- ---- open values
 
 -- a nogood of pairs that are all one pair has no other pairs
-one_pair : (n d : ℕ) (nogood : List Pair) (p : Pair) → IsNogood n d nogood → nogood ≢ [] → IsContained nogood (p ∷ []) → nogood ≡ p ∷ []
+one_pair : (n d : ℕ) (nogood : List Pair) (p : Pair) → IsNogood n d nogood → nogood ≢ []
+    → IsContained nogood (p ∷ []) → nogood ≡ p ∷ []
 one_pair n d [] p is some within = absurd (some refl)
 one_pair n d (q ∷ []) p is some within = by (Contains-cons_cases p q [] (within 0 q (omega arith)))
   where
@@ -125,7 +137,8 @@ one_pair n d (q ∷ r ∷ rest) p is some within =
         one (inr none) = absurd (Contains-nil s none)
 
 -- where no step of a valid log is empty, a value that the log does not exclude by itself is open beside no pairs
-pub open_none : (lang : LanguageView) (inst : InstanceView) (log : List StepView) → AreValid lang inst log → All (λ s. s.nogood ≢ []) log
+pub open_none : (lang : LanguageView) (inst : InstanceView) (log : List StepView) → AreValid lang inst log
+    → All (λ s. s.nogood ≢ []) log
     → (v : ℕ) → HasValue lang.domain log v → IsOpen lang.domain log [] v
 open_none lang inst log valid nonempty v left = record {
   value = left.value;
@@ -133,7 +146,8 @@ open_none lang inst log valid nonempty v left = record {
   free = λ found.
       let nogood : List Pair = nogood_at log found.step in
       left.left found.step no_step found.known
-      (one_pair (length inst.variables) lang.domain nogood (record { variable = v; value = left.value }) (valid found.step found.known).placed.is_nogood
+      (one_pair (length inst.variables) lang.domain nogood (record { variable = v; value = left.value })
+      (valid found.step found.known).placed.is_nogood
       (nonempty found.step no_step found.known) found.within);
 }
 
@@ -146,7 +160,8 @@ pub all_settled : (lang : LanguageView) (inst : InstanceView) (most : ℕ) (log 
     → All (HasScopeCases lang inst most log) inst.constraints
     → AllSettled lang inst most log
 all_settled lang inst most log valid nonempty open_values left cases nogood small free = record {
-  cases = λ c d inside. scope_cases lang inst most log (get_or inst.constraints c d) (cases c d inside) nogood small free;
+  cases = λ c d inside. scope_cases lang inst most log (get_or inst.constraints c d)
+      (cases c d inside) nogood small free;
   values = by nogood small free;
 }
   where

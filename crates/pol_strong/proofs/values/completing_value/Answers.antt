@@ -18,7 +18,8 @@ pub bounds-values-earlier : goal.bounds-values-earlier
 bounds-values-earlier c =
     let less = below_last c.args.nogood.now c.requires.ascending _
     (last_read c.args.nogood.now c.len-last.result _ c.len-last.ensures.pairs c.pair-variable.ensures.pair)
-    c.args.values.now c.loop-i.i _ c.pair-earlier.ensures.pair (omega (arith, c.loop-i-test.true, c.len-last.ensures.pairs)) in
+    c.args.values.now c.loop-i.i _ c.pair-earlier.ensures.pair
+    (omega (arith, c.loop-i-test.true, c.len-last.ensures.pairs)) in
     omega (arith, less, c.if-variable-values.false)
 
 pub returns-then-values-earlier-clause-indifferent : goal.returns-then-values-earlier-clause-indifferent
@@ -30,14 +31,16 @@ returns-then-values-earlier-clause-indifferent c =
 
 pub loop-i-preserved : goal.loop-i-preserved
 loop-i-preserved c =
-    held_more c.args.values.now c.args.nogood.now c.loop-i.i _ c.pair-earlier.ensures.pair c.if-values-earlier.false c.loop-i.invariant
+    held_more c.args.values.now c.args.nogood.now c.loop-i.i _ c.pair-earlier.ensures.pair
+    c.if-values-earlier.false c.loop-i.invariant
 
 pub returns-clause-completes : goal.returns-clause-completes
 returns-clause-completes c =
     completes_last c.args.nogood.now c.requires.ascending _
     (last_read c.args.nogood.now c.len-last.result _ c.len-last.ensures.pairs c.pair-variable.ensures.pair)
     c.args.values.now c.if-variable-values.false
-    (let done : c.loop-i.i ≡ length c.args.nogood.now - 1 = omega (arith, c.loop-i.auto.i-end, c.loop-i-test.false, c.len-last.ensures.pairs) in
+    (let done : c.loop-i.i ≡ length c.args.nogood.now - 1 = omega
+    (arith, c.loop-i.auto.i-end, c.loop-i-test.false, c.len-last.ensures.pairs) in
     rw done at c.loop-i.invariant)
 
 pub returns-clause-value : goal.returns-clause-value

@@ -15,7 +15,8 @@ completing_value-requires c =
     = sym (c.nogood.ensures.nogood ∙ ap (λ (t : StepView). t.nogood) c.step.ensures.step) in
     let known : c.loop-s.s < length c.args.log.now = omega (arith, c.loop-s-test.true, c.len-s-end.ensures.steps) in
     record {
-      ascending = subst (λ (nogood : List Pair). AllPairs (λ p q. p.variable < q.variable) nogood) nogood_is (c.requires.ascending c.loop-s.s no_step known);
+      ascending = subst (λ (nogood : List Pair). AllPairs (λ p q. p.variable < q.variable) nogood) nogood_is
+          (c.requires.ascending c.loop-s.s no_step known);
     }
 
 pub without-left-requires : goal.without-left-requires
@@ -24,7 +25,8 @@ without-left-requires c =
     = sym (c.nogood.ensures.nogood ∙ ap (λ (t : StepView). t.nogood) c.step.ensures.step) in
     let known : c.loop-s.s < length c.args.log.now = omega (arith, c.loop-s-test.true, c.len-s-end.ensures.steps) in
     let below : All (λ p. p.value < 5) c.nogood.result.now
-    = subst (λ (nogood : List Pair). All (λ p. p.value < 5) nogood) nogood_is (c.requires.below c.loop-s.s no_step known) in
+    = subst (λ (nogood : List Pair). All (λ p. p.value < 5) nogood) nogood_is
+    (c.requires.below c.loop-s.s no_step known) in
     let value : c.in-Some.value < 5 = c.in-Some.ensures.value 5 below in
     record { value = omega (arith, value) }
 
@@ -36,8 +38,10 @@ loop-s-preserved c =
     let known : c.loop-s.s < length c.args.log.now = omega (arith, c.loop-s-test.true, c.len-s-end.ensures.steps) in
     elim c.match-completing_value.branch [
       | in-Some w ↦ rw w.left-is
-          (open_without c.args.d c.args.log.now values c.loop-s.s c.loop-s.left c.loop-s.invariant w.in-Some.value w.without-left.result
-          (subst (λ (nogood : List Pair). Completes nogood values w.in-Some.value) nogood_is w.in-Some.ensures.completes)
+          (open_without c.args.d c.args.log.now values c.loop-s.s c.loop-s.left c.loop-s.invariant w.in-Some.value
+          w.without-left.result
+          (subst (λ (nogood : List Pair). Completes nogood values w.in-Some.value) nogood_is
+          w.in-Some.ensures.completes)
           w.without-left.ensures.others)
       | in_default w ↦ rw w.left-is
           (open_same c.args.d c.args.log.now values c.loop-s.s c.loop-s.left c.loop-s.invariant known c.requires.avoids
@@ -46,7 +50,9 @@ loop-s-preserved c =
 
 pub returns : goal.returns
 returns c =
-    let done : c.loop-s.s ≡ length c.args.log.now = omega (arith, c.loop-s.auto.s-end, c.loop-s-test.false, c.len-s-end.ensures.steps) in
+    let done : c.loop-s.s ≡ length c.args.log.now
+    = omega (arith, c.loop-s.auto.s-end, c.loop-s-test.false, c.len-s-end.ensures.steps) in
     record {
-      next = subst (λ (n : ℕ). AreOpenNext c.args.d c.args.log.now n c.args.values.now c.loop-s.left) done c.loop-s.invariant;
+      next = subst (λ (n : ℕ). AreOpenNext c.args.d c.args.log.now n c.args.values.now c.loop-s.left) done
+          c.loop-s.invariant;
     }
