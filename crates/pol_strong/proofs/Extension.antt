@@ -36,8 +36,9 @@ module _ (n most : ℕ) (Kept : List ℕ → List ℕ → Type 0) (family : IsFa
       → (i : ℕ) → i < length vars → (b : ℕ) → b < d → Kept (v ∷ remove vars i) (set a v b)
       → (some : List ℕ) → AreAmong some (v ∷ vars) → length some ≤ most
       → (c : List ℕ) × IsNear d n Kept some a v b (get_or vars i 0) c
-  near_part d extends is i within b below kept some inside short = from (without some (get_or vars i 0)).0
-      (without some (get_or vars i 0)).1
+  near_part d extends is i within b below kept some inside short =
+      let others = without some (get_or vars i 0) in
+      from others.0 others.1
     where
       from : (rest : List ℕ) → IsWithout some (get_or vars i 0) rest
           → (c : List ℕ) × IsNear d n Kept some a v b (get_or vars i 0) c
@@ -118,8 +119,9 @@ module _ (n most : ℕ) (Kept : List ℕ → List ℕ → Type 0) (family : IsFa
           below = value_at-below f op bs (record { long = long; below = λ i d h. (good i d (omega arith)).0 });
           kept = family.small (v ∷ vars) (set a v (value_at f bs)) (λ some inside short.
               let chosen = choose (λ i c. IsNear f.domain n Kept some a v (get_or bs i 0) (get_or vars i 0) c) f.arity
-              (λ i h. near_part f.domain extends is i (omega arith) (get_or bs i 0) (good i 0 h).0
-              (good i 0 h).1 some inside short) in
+              (λ i h.
+              let is_good = good i 0 h in
+              near_part f.domain extends is i (omega arith) (get_or bs i 0) is_good.0 is_good.1 some inside short) in
               part some inside short chosen.0 chosen.1 chosen.2);
         }
           where

@@ -6,8 +6,8 @@ use Rattle.std.proofs.lemmas.List.{length-take-le, get_or-take, get_or_push, get
 use Rattle.std.proofs.lemmas.List.Elements.{All-more, All-contains, All-from_get_or}
 use Rattle.std.proofs.lemmas.Option.{get_or_from_slice_get, slice_get_within}
 use Rattle.std.proofs.lemmas.List.FromFn.{length-range_with_len, get_or-range_with_len, map-range_with_len_more}
-use Rattle.pol_nogood.specs.Nogoods.{Pair, IsContained, Holds}
-use Rattle.pol_nogood.specs.Logs.{StepView, nogood_at, reading, value_case}
+use Rattle.pol_nogood.specs.Nogoods.{Pair, Holds}
+use Rattle.pol_nogood.specs.Logs.{StepView, reading, value_case}
 use Rattle.pol_nogood.proofs.LogCases.{pair_at, reading_place, All-reading}
 use Rattle.pol_nogood.proofs.PackedPairs.{reading_push}
 use Rattle.pol_strong.specs.Contradictions.{IsContradicted, given, Avoids, Completes, IsIndifferent}
@@ -214,9 +214,3 @@ pub avoided_push : (log : List StepView) (values : List ℕ) (b : ℕ)
     → Avoids log (values ++ b ∷ [])
 avoided_push log values b free = subst (λ (pairs : List Pair). ¬ IsContradicted log pairs)
     (sym (given_push values b)) free
-
--- and so where each step of the log says so
-pub avoided_steps : (log : List StepView) (values : List ℕ)
-    → ((s : ℕ) → s < length log → ¬ IsContained (nogood_at log s) (given values))
-    → Avoids log values
-avoided_steps log values each found = each found.step found.known found.within

@@ -120,9 +120,6 @@ module _ (lang : LanguageView) (good : IsLanguage lang) (inst : InstanceView) (f
             by (cases_eq p.variable (length values)) ∙ is.value_is,
           )
             where
-              v : ℕ
-              v = length values
-
               by : (p.variable ≡ length values) ⊎ (p.variable ≡ length values → ⊥)
                   → get_or (set whole (length values) next.value) p.variable 0 ≡ get_or
                   (values ++ next.value ∷ []) p.variable 0

@@ -32,8 +32,12 @@ mask_below d mask below =
     omega arith
 
 module _ (d : ℕ) (log : List StepView) (values : List ℕ) where
-  pub open_none : AreOpenNext d log 0 values (2 ^ d - 1)
-  open_none b = (λ has. ((full_set d b).0 has, λ s less. absurd (omega (arith, less))), λ both. (full_set d b).1 both.0)
+  -- before the first step it has all values
+  pub open_at_first : AreOpenNext d log 0 values (2 ^ d - 1)
+  open_at_first b = (
+    λ has. ((full_set d b).0 has, λ s less. absurd (omega (arith, less))),
+    λ both. (full_set d b).1 both.0,
+  )
 
   -- the values that avoid the log are the mask of all its steps
   pub open_avoids : (mask : ℕ) → AreOpenNext d log (length log) values mask → (b : ℕ)
@@ -47,11 +51,8 @@ module _ (d : ℕ) (log : List StepView) (values : List ℕ) where
   pub open_is_mask : (count mask b : ℕ) → IsDomain d → AreOpenNext d log count values mask → IsBitSet mask b
       → IsMask 5 mask
   open_is_mask count mask b domain opens has =
-      mask_more d 5 mask domain.few (record {
-        some = set_pos mask b has;
-        below = mask_below d mask
-            (λ b has. ((opens b).0 has).0);
-      })
+      let below : mask < 2 ^ d = mask_below d mask (λ b has. ((opens b).0 has).0) in
+      mask_more d 5 mask domain.few (record { some = set_pos mask b has; below = below })
 
   -- one step more
   module _ (s mask : ℕ) (opens : AreOpenNext d log s values mask) where

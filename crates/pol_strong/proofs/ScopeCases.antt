@@ -53,8 +53,8 @@ true-is_on scope p passes =
 reading_on : (scope row : List ℕ) (p : Pair) → Contains (reading scope row) p → Contains scope p.variable
 reading_on [] row p inside = absurd (Contains-nil p inside)
 reading_on (x ∷ scope) [] p inside = absurd (Contains-nil p inside)
-reading_on (x ∷ scope) (v ∷ row) p inside = by
-    (Contains-cons_cases (record { variable = x; value = v }) p (reading scope row) inside)
+reading_on (x ∷ scope) (v ∷ row) p inside =
+    by (Contains-cons_cases (record { variable = x; value = v }) p (reading scope row) inside)
     (reading_on scope row p)
   where
     by : (record { variable = x; value = v } ≡ p) ⊎ Contains (reading scope row) p
@@ -100,8 +100,9 @@ scope_cases lang inst most log c has nogood small free =
         ascending = AllPairs-filter (λ (p q : Pair). p.variable < q.variable)
             (is_on c.scope) nogood small.is_nogood.ascending;
       };
-      few = let both = length-filter_both (is_on c.scope) (λ p. not (is_on c.scope p)) (λ p. refl) nogood in omega
-          (arith, both, small.few);
+      few =
+          let both = length-filter_both (is_on c.scope) (λ p. not (is_on c.scope p)) (λ p. refl) nogood in
+          omega (arith, both, small.few);
     } in
     let on : All (λ p. Contains c.scope p.variable) some
     = All-weaker (λ p. is_on c.scope p ≡ true) (λ p. Contains c.scope p.variable) (true-is_on c.scope) some
@@ -137,10 +138,10 @@ one_pair n d (q ∷ r ∷ rest) p is some within =
         one (inr none) = absurd (Contains-nil s none)
 
 -- where no step of a valid log is empty, a value that the log does not exclude by itself is open beside no pairs
-pub open_none : (lang : LanguageView) (inst : InstanceView) (log : List StepView) → AreValid lang inst log
+left_is_open : (lang : LanguageView) (inst : InstanceView) (log : List StepView) → AreValid lang inst log
     → All (λ s. s.nogood ≢ []) log
     → (v : ℕ) → HasValue lang.domain log v → IsOpen lang.domain log [] v
-open_none lang inst log valid nonempty v left = record {
+left_is_open lang inst log valid nonempty v left = record {
   value = left.value;
   below = left.below;
   free = λ found.
@@ -167,5 +168,5 @@ all_settled lang inst most log valid nonempty open_values left cases nogood smal
   where
     by : (nogood : List Pair) → IsSmall (length inst.variables) lang.domain most nogood → ¬ IsContradicted log nogood
         → AreOpen (length inst.variables) lang.domain log nogood
-    by [] small free = λ v known apart. open_none lang inst log valid nonempty v (left v known)
+    by [] small free = λ v known apart. left_is_open lang inst log valid nonempty v (left v known)
     by (p ∷ rest) small free = open_values (p ∷ rest) small (omega arith) free

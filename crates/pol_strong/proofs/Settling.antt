@@ -105,16 +105,13 @@ pub kept_more : (log : List StepView) (a xs vars : List ℕ) (v b : ℕ) → Are
     → KeptBy log (v ∷ vars) (set a v b)
 kept_more log a xs vars v b among known free =
     All-from_get_or (λ (s : StepView). ¬ HeldAt (v ∷ vars) (set a v b) s.nogood) log no_step (λ i inside held.
+    let nogood : List Pair = nogood_at log i in
     free (record {
       step = i;
       known = inside;
-      within = λ k d h. found (get_or (nogood_at log i) k d) (held k d h).0
-          (held k d h).1;
+      within = λ k d h. let is_held = held k d h in found (get_or nogood k d) is_held.0 is_held.1;
     }))
   where
-    all : List Pair
-    all = assigned_pairs a xs ++ value_case v b
-
     found : (p : Pair) → Contains (v ∷ vars) p.variable → get_or (set a v b) p.variable 0 ≡ p.value
         → Contains (assigned_pairs a xs ++ value_case v b) p
     found p listed value_is = by (cases_eq p.variable v)
@@ -161,12 +158,9 @@ module _ (lang : LanguageView) (inst : InstanceView) (most : ℕ) (log : List St
           });
           ascending = λ i j d less inside.
               let within : j < length (in_order n vars) = omega (arith, length-map (in_order n vars) (assigned a)) in
-              rw (
-                get_or-map (assigned a) (in_order n vars) i 0 d (omega arith),
-                get_or-map (assigned a)
-                    (in_order n vars) j 0 d within,
-              )
-              (in_order-ascends n vars i j 0 less within);
+              let one = get_or-map (assigned a) (in_order n vars) i 0 d (omega arith) in
+              let other = get_or-map (assigned a) (in_order n vars) j 0 d within in
+              rw (one, other) (in_order-ascends n vars i j 0 less within);
         };
         few = omega (arith, length-map (in_order n vars) (assigned a), in_order-short n vars);
       }

@@ -2,12 +2,12 @@ use Rattle.std.proofs.Common.{◌≡◌, ◌<◌, ◌∙◌, ℕ, List, length, 
 use Rattle.pol_nogood.specs.Nogoods.{Pair}
 use Rattle.pol_nogood.specs.Logs.{StepView, no_step, nogood_at}
 use Rattle.pol_strong.specs.Contradictions.{Completes, IsIndifferent, AreOpenNext}
-use Rattle.pol_strong.proofs.OpenMasks.{open_none, open_same, open_without}
+use Rattle.pol_strong.proofs.OpenMasks.{open_at_first, open_same, open_without}
 use Rattle.pol_strong.proofs.values.open_values.Goals.{in-Some, in_default}
 use Rattle.pol_strong.proofs.values.open_values.Goals as goal
 
 pub loop-s-init : goal.loop-s-init
-loop-s-init c = rw c.full_mask-left.ensures.all (open_none c.args.d c.args.log.now c.args.values.now)
+loop-s-init c = rw c.full_mask-left.ensures.all (open_at_first c.args.d c.args.log.now c.args.values.now)
 
 pub completing_value-requires : goal.completing_value-requires
 completing_value-requires c =
