@@ -15,7 +15,8 @@ use Rattle.pol_strong.proofs.Choosing.{choose}
 use Rattle.pol_strong.proofs.ImagePlaces.{image_but_one}
 
 -- what holds of all elements but the one at i holds of another
-All-from_remove : (P : ℕ → Type 0) (xs : List ℕ) (i p d : ℕ) → i < length xs → p < length xs → p ≢ i → All P (remove xs i)
+All-from_remove : (P : ℕ → Type 0) (xs : List ℕ) (i p d : ℕ) → i < length xs → p < length xs → p ≢ i
+    → All P (remove xs i)
     → P (get_or xs p d)
 All-from_remove P xs i p d within inside apart all = by (cases_order p i)
   where
@@ -86,7 +87,8 @@ module _ (f : Operation) (near : IsNearUnanimity f) (n : ℕ) (T : List ℕ → 
       let place : (i d : ℕ) → i < n → get_or (range_with_len 0 n) i d ≡ i
       = λ i d h. omega (arith, get_or-range_with_len 0 n i d h) in
       let all : Agrees T t (range_with_len 0 n)
-      = agrees_up_to small n (range_with_len 0 n) (omega arith) (λ i d h. rw (place i d (omega arith)) (omega arith)) some in
+      = agrees_up_to small n (range_with_len 0 n) (omega arith)
+      (λ i d h. rw (place i d (omega arith)) (omega arith)) some in
       let tuple : IsTuple f.domain n all.row = keeps.tuples all.row all.inside in
       let same : all.row ≡ t = ext_get_or 0 all.row t (tuple.long ∙ sym is.long) (λ j h.
       rw (place j 0 (omega (arith, tuple.long))) at (all.same j 0 (omega (arith, tuple.long)))) in

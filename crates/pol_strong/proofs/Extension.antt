@@ -36,7 +36,9 @@ module _ (n most : ℕ) (Kept : List ℕ → List ℕ → Type 0) (family : IsFa
       → (i : ℕ) → i < length vars → (b : ℕ) → b < d → Kept (v ∷ remove vars i) (set a v b)
       → (some : List ℕ) → AreAmong some (v ∷ vars) → length some ≤ most
       → (c : List ℕ) × IsNear d n Kept some a v b (get_or vars i 0) c
-  near_part d extends is i within b below kept some inside short = from (without some (get_or vars i 0)).0 (without some (get_or vars i 0)).1
+  near_part d extends is i within b below kept some inside short =
+      let others = without some (get_or vars i 0) in
+      from others.0 others.1
     where
       from : (rest : List ℕ) → IsWithout some (get_or vars i 0) rest
           → (c : List ℕ) × IsNear d n Kept some a v b (get_or vars i 0) c
@@ -46,7 +48,8 @@ module _ (n most : ℕ) (Kept : List ℕ → List ℕ → Type 0) (family : IsFa
           let with_b : IsTuple d n (set a v b) = IsTuple-set d n a v b is below in
           let apart : v ≢ x = λ same. new (subst (Contains vars) (sym same) (Contains-get_or vars i 0 within)) in
           let narrow : AreAmong rest (v ∷ remove vars i) = λ y m.
-          at y (Contains-cons_cases v y vars (inside y (w.inside y m))) (λ same. w.gone (subst (Contains rest) (sym same) m)) in
+          at y (Contains-cons_cases v y vars (inside y (w.inside y m)))
+          (λ same. w.gone (subst (Contains rest) (sym same) m)) in
           let small : Kept rest (set a v b)
           = family.parts (v ∷ remove vars i) rest (set a v b) (set a v b) narrow (λ k d h. refl) kept in
           let known_rest : AreKnown n rest = λ k e m.
@@ -79,7 +82,8 @@ module _ (n most : ℕ) (Kept : List ℕ → List ℕ → Type 0) (family : IsFa
         → IsNear f.domain n Kept some a v (get_or bs i 0) (get_or vars i 0) (get_or cs i d))
         → SameAt some (image f n cs) (set a v (value_at f bs))
     near_image bs long some inside cs counted each p d h =
-        by (get_or some p d) (Contains-cons_cases v (get_or some p d) vars (inside (get_or some p d) (Contains-get_or some p d h)))
+        by (get_or some p d) (Contains-cons_cases v (get_or some p d) vars
+        (inside (get_or some p d) (Contains-get_or some p d h)))
       where
         column_at_v : column cs v ≡ bs
         column_at_v = column_is cs bs v (counted ∙ sym long) (λ i h. (each i [] (omega arith)).at_v)
@@ -99,25 +103,30 @@ module _ (n most : ℕ) (Kept : List ℕ → List ℕ → Type 0) (family : IsFa
             ∙ sym (get_or-set_other a v j (value_at f bs) 0 apart)
 
     -- where the part without each of its first variables extends, the part does
-    extends_more : ((i : ℕ) → i < f.arity → Extended f.domain Kept (remove vars i) a v) → Extended f.domain Kept vars a v
+    extends_more : ((i : ℕ) → i < f.arity → Extended f.domain Kept (remove vars i) a v)
+        → Extended f.domain Kept vars a v
     extends_more each =
         let values = choose (λ i b. (b < f.domain) × Kept (v ∷ remove vars i) (set a v b)) f.arity
         (λ i h. let e = each i h in (e.value, (e.below, e.kept))) in
         from values.0 values.1 values.2
       where
         from : (bs : List ℕ) → length bs ≡ f.arity
-            → ((i d : ℕ) → i < f.arity → (get_or bs i d < f.domain) × Kept (v ∷ remove vars i) (set a v (get_or bs i d)))
+            → ((i d : ℕ) → i < f.arity → (get_or bs i d < f.domain) × Kept (v ∷ remove vars i)
+            (set a v (get_or bs i d)))
             → Extended f.domain Kept vars a v
         from bs long good = record {
           value = value_at f bs;
           below = value_at-below f op bs (record { long = long; below = λ i d h. (good i d (omega arith)).0 });
           kept = family.small (v ∷ vars) (set a v (value_at f bs)) (λ some inside short.
               let chosen = choose (λ i c. IsNear f.domain n Kept some a v (get_or bs i 0) (get_or vars i 0) c) f.arity
-              (λ i h. near_part f.domain extends is i (omega arith) (get_or bs i 0) (good i 0 h).0 (good i 0 h).1 some inside short) in
+              (λ i h.
+              let is_good = good i 0 h in
+              near_part f.domain extends is i (omega arith) (get_or bs i 0) is_good.0 is_good.1 some inside short) in
               part some inside short chosen.0 chosen.1 chosen.2);
         }
           where
-            part : (some : List ℕ) → AreAmong some (v ∷ vars) → length some ≤ most → (cs : List (List ℕ)) → length cs ≡ f.arity
+            part : (some : List ℕ) → AreAmong some (v ∷ vars) → length some ≤ most → (cs : List (List ℕ))
+                → length cs ≡ f.arity
                 → ((i : ℕ) (d : List ℕ) → i < f.arity
                 → IsNear f.domain n Kept some a v (get_or bs i 0) (get_or vars i 0) (get_or cs i d))
                 → Kept some (set a v (value_at f bs))
@@ -125,7 +134,8 @@ module _ (n most : ℕ) (Kept : List ℕ → List ℕ → Type 0) (family : IsFa
                 family.parts some some (image f n cs) (set a v (value_at f bs)) (AreAmong-itself some)
                 (near_image bs long some inside cs counted near_all)
                 (preserved.images some cs
-                (AreAmong-All (λ z. z < n) some (v ∷ vars) inside (All-cons (λ z. z < n) v vars further known)) short counted
+                (AreAmong-All (λ z. z < n) some (v ∷ vars) inside (All-cons (λ z. z < n) v vars further known))
+                short counted
                 (λ i d h. (near_all i d (omega arith)).tuple) (λ i d h. (near_all i d (omega arith)).kept))
 
 module _ (f : Operation) (op : IsOperation f) (near : IsNearUnanimity f) (n most : ℕ) (size : f.arity ≡ most + 1)
@@ -145,7 +155,8 @@ module _ (f : Operation) (op : IsOperation f) (near : IsNearUnanimity f) (n most
           → ((i : ℕ) → i < length vars → Extended f.domain Kept (remove vars i) a v)
           → Extended f.domain Kept vars a v
       by (inl more) rest =
-          extends_more n most Kept family vars a known v further new f op near extends preserved is distinct (omega arith)
+          extends_more n most Kept family vars a known v further new f op near extends preserved is distinct
+          (omega arith)
           (λ i h. rest i (omega arith))
       by (inr fits) rest = extends.more vars a v is known fits kept further new
 

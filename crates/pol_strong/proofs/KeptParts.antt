@@ -29,7 +29,8 @@ pub in_vars_of : (nogood : List Pair) (p : Pair) → Contains nogood p → Conta
 in_vars_of nogood p inside = in_map (λ (p : Pair). p.variable) nogood p inside
 
 -- a pair of the variable
-pub pair_of_var : (nogood : List Pair) (x : ℕ) → Contains (vars_of nogood) x → (p : Pair) × Contains nogood p × (p.variable ≡ x)
+pub pair_of_var : (nogood : List Pair) (x : ℕ) → Contains (vars_of nogood) x
+    → (p : Pair) × Contains nogood p × (p.variable ≡ x)
 pair_of_var nogood x inside =
     let within : inside.0 < length nogood = omega (arith, inside.1, length-vars_of nogood) in
     let d : Pair = record { variable = 0; value = 0 } in (
@@ -39,7 +40,8 @@ pair_of_var nogood x inside =
     )
 
 pub vars_known : (n d : ℕ) (nogood : List Pair) → IsNogood n d nogood → AreKnown n (vars_of nogood)
-vars_known n d nogood is = All-map (λ v. v < n) (λ (p : Pair). p.variable) nogood (λ k e h. (is.pairs k e h).variable_known)
+vars_known n d nogood is = All-map (λ v. v < n) (λ (p : Pair). p.variable) nogood
+    (λ k e h. (is.pairs k e h).variable_known)
 
 -- a variable that no pair names
 pub not_in_vars_of : (nogood : List Pair) (v : ℕ) → All (λ p. p.variable ≢ v) nogood → ¬ Contains (vars_of nogood) v
@@ -92,7 +94,8 @@ reads_image : (f : Operation) (n : ℕ) (scope vars : List ℕ) (parts rows : Li
 reads_image f n scope vars parts rows known many counted each = record {
   one_value = λ i j within inside same.
       image_place f (length scope) rows i within
-      ∙ (ap (value_at f) (columns_same rows rows i j refl (λ k h. (each k (omega arith)).one_value i j within inside same))
+      ∙ (ap (value_at f) (columns_same rows rows i j refl
+      (λ k h. (each k (omega arith)).one_value i j within inside same))
       ∙ sym (image_place f (length scope) rows j inside));
   same = λ i within counts.
       image_place f (length scope) rows i within
@@ -101,7 +104,8 @@ reads_image f n scope vars parts rows known many counted each = record {
       ∙ sym (image_place f n parts (get_or scope i 0) (known i 0 within)));
 }
 
-module _ (f : Operation) (op : IsOperation f) (lang : LanguageView) (good : IsLanguage lang) (domain : f.domain ≡ lang.domain)
+module _ (f : Operation) (op : IsOperation f) (lang : LanguageView) (good : IsLanguage lang)
+    (domain : f.domain ≡ lang.domain)
     (poly : IsPolymorphism f lang) (inst : InstanceView) (fits : Fits lang inst)
     (most : ℕ) (log : List StepView) (few : All (λ s. length s.nogood ≤ most) log) where
   abbrev n : ℕ
@@ -113,7 +117,8 @@ module _ (f : Operation) (op : IsOperation f) (lang : LanguageView) (good : IsLa
       → (nogood : List Pair) → length nogood ≤ most → AreKnown n (vars_of nogood) → IsMade f n log nogood
       → HasCase lang (constraint_of inst c) nogood
   row_made unbroken c inside nogood short known made =
-      let chosen = choose (λ i row. Contains (rows_of lang k.relation) row × Reads k.scope (vars_of nogood) (get_or made.parts i []) row)
+      let chosen = choose (λ i row. Contains (rows_of lang k.relation) row × Reads k.scope (vars_of nogood)
+      (get_or made.parts i []) row)
       f.arity (λ i h.
       let part : List ℕ = get_or made.parts i [] in
       let s : Supports (rows_of lang k.relation) k.scope (vars_of nogood) part
@@ -131,14 +136,17 @@ module _ (f : Operation) (op : IsOperation f) (lang : LanguageView) (good : IsLa
 
       from : (rows : List (List ℕ)) → length rows ≡ f.arity
           → ((i : ℕ) (d : List ℕ) → i < f.arity
-          → Contains (rows_of lang k.relation) (get_or rows i d) × Reads k.scope (vars_of nogood) (get_or made.parts i []) (get_or rows i d))
+          → Contains (rows_of lang k.relation) (get_or rows i d) × Reads k.scope (vars_of nogood)
+          (get_or made.parts i []) (get_or rows i d))
           → HasCase lang (constraint_of inst c) nogood
       from rows counted each =
           let wide : List ℕ = image f (length k.scope) rows in
           let listed : Contains (rows_of lang k.relation) wide
-          = rw (← fit.long) at (poly k.relation no_named fit.known rows counted (λ i d h. (each i d (omega arith)).0)) in
+          = rw (← fit.long) at (poly k.relation no_named fit.known rows counted
+          (λ i d h. (each i d (omega arith)).0)) in
           let reads : Reads k.scope (vars_of nogood) (image f n made.parts) wide
-          = reads_image f n k.scope (vars_of nogood) made.parts rows fit.below made.many counted (λ i h. (each i [] h).1) in
+          = reads_image f n k.scope (vars_of nogood) made.parts rows fit.below made.many counted
+          (λ i h. (each i [] h).1) in
           record {
             row = wide;
             listed = listed;
@@ -159,7 +167,8 @@ module _ (f : Operation) (op : IsOperation f) (lang : LanguageView) (good : IsLa
       → IsMade f n log nogood
       → HasHeldCase (IsMade f n log) nogood (value_cases v lang.domain)
   value_made extends v further nogood short known apart made =
-      let grown = choose (λ i c. IsGrown f.domain n log (v ∷ vars_of nogood) (get_or made.parts i []) v (get_or values.0 i 0) c)
+      let grown = choose (λ i c. IsGrown f.domain n log (v ∷ vars_of nogood) (get_or made.parts i []) v
+      (get_or values.0 i 0) c)
       f.arity (λ i h.
       let part : List ℕ = get_or made.parts i [] in
       let is : IsTuple f.domain n part = made.tuples i [] (omega (arith, made.many)) in
@@ -176,8 +185,10 @@ module _ (f : Operation) (op : IsOperation f) (lang : LanguageView) (good : IsLa
       from values.0 values.1 (λ i d h. (values.2 i d h).0) grown.0 grown.1 grown.2
     where
       values : (bs : List ℕ) × (length bs ≡ f.arity)
-          × ((i d : ℕ) → i < f.arity → (get_or bs i d < f.domain) × KeptBy log (v ∷ vars_of nogood) (set (get_or made.parts i []) v (get_or bs i d)))
-      values = choose (λ i b. (b < f.domain) × KeptBy log (v ∷ vars_of nogood) (set (get_or made.parts i []) v b)) f.arity (λ i h.
+          × ((i d : ℕ) → i < f.arity → (get_or bs i d < f.domain) × KeptBy log (v ∷ vars_of nogood)
+          (set (get_or made.parts i []) v (get_or bs i d)))
+      values = choose (λ i b. (b < f.domain) × KeptBy log (v ∷ vars_of nogood) (set (get_or made.parts i []) v b))
+          f.arity (λ i h.
           let inside : i < length made.parts = omega (arith, made.many) in
           let x : Extended f.domain (KeptBy log) (vars_of nogood) (get_or made.parts i []) v
           = extends.more (vars_of nogood) (get_or made.parts i []) v (made.tuples i [] inside) known
@@ -190,14 +201,17 @@ module _ (f : Operation) (op : IsOperation f) (lang : LanguageView) (good : IsLa
           let p = pair_of_var (nogood ++ value_case v b) x inside in
           by p.0 p.2 (Contains-append_cases nogood (value_case v b) p.0 p.1)
         where
-          by : (q : Pair) → q.variable ≡ x → Contains nogood q ⊎ Contains (value_case v b) q → Contains (v ∷ vars_of nogood) x
+          by : (q : Pair) → q.variable ≡ x → Contains nogood q ⊎ Contains (value_case v b) q
+              → Contains (v ∷ vars_of nogood) x
           by q at (inl old) =
-              subst (Contains (v ∷ vars_of nogood)) at (Contains-there v q.variable (vars_of nogood) (in_vars_of nogood q old))
+              subst (Contains (v ∷ vars_of nogood)) at (Contains-there v q.variable (vars_of nogood)
+              (in_vars_of nogood q old))
           by q at (inr last) = last_is (Contains-cons_cases (record { variable = v; value = b }) q [] last)
             where
               last_is : (record { variable = v; value = b } ≡ q) ⊎ Contains [] q → Contains (v ∷ vars_of nogood) x
               last_is (inl same) =
-                  subst (Contains (v ∷ vars_of nogood)) (ap (λ (p : Pair). p.variable) same ∙ at) (Contains-here v (vars_of nogood))
+                  subst (Contains (v ∷ vars_of nogood)) (ap (λ (p : Pair). p.variable) same ∙ at)
+                  (Contains-here v (vars_of nogood))
               last_is (inr none) = absurd (Contains-nil q none)
 
       from : (bs : List ℕ) → length bs ≡ f.arity → ((i d : ℕ) → i < f.arity → get_or bs i d < f.domain)
@@ -207,15 +221,18 @@ module _ (f : Operation) (op : IsOperation f) (lang : LanguageView) (good : IsLa
           → HasHeldCase (IsMade f n log) nogood (value_cases v lang.domain)
       from bs long below cs counted each =
           let b : ℕ = value_at f bs in
-          let less : b < f.domain = value_at-below f op bs (record { long = long; below = λ i d h. below i d (omega arith) }) in
+          let less : b < f.domain = value_at-below f op bs
+          (record { long = long; below = λ i d h. below i d (omega arith) }) in
           let known_value : b < lang.domain = subst (λ (d : ℕ). b < d) domain less in
           let wide : List ℕ = image f n cs in
           let at_v : get_or wide v 0 ≡ b
-          = image_place f n cs v further ∙ ap (value_at f) (column_is cs bs v (counted ∙ sym long) (λ i h. (each i [] (omega arith)).at_v)) in
+          = image_place f n cs v further
+          ∙ ap (value_at f) (column_is cs bs v (counted ∙ sym long) (λ i h. (each i [] (omega arith)).at_v)) in
           let old : Holds wide nogood = λ i d h.
           let p : Pair = get_or nogood i d in
           let p_known : p.variable < n
-          = All-contains (λ x. x < n) (vars_of nogood) p.variable known (in_vars_of nogood p (Contains-get_or nogood i d h)) in
+          = All-contains (λ x. x < n) (vars_of nogood) p.variable known
+          (in_vars_of nogood p (Contains-get_or nogood i d h)) in
           image_place f n cs p.variable p_known
           ∙ (ap (value_at f) (columns_same cs made.parts p.variable p.variable (counted ∙ sym made.many)
           (λ k inside. (each k [] (omega arith)).other p.variable (apart i d h)))
@@ -229,7 +246,8 @@ module _ (f : Operation) (op : IsOperation f) (lang : LanguageView) (good : IsLa
             many = counted;
             tuples = λ i d h. (each i d (omega arith)).tuple;
             kept = λ i d h.
-                (kept_family most log few).parts (v ∷ vars_of nogood) (vars_of (nogood ++ value_case v b)) (get_or cs i d) (get_or cs i d)
+                (kept_family most log few).parts (v ∷ vars_of nogood) (vars_of (nogood ++ value_case v b))
+                (get_or cs i d) (get_or cs i d)
                 (narrow b) (λ k d h. refl) (each i d (omega arith)).kept;
             holds = both;
           } in
@@ -246,16 +264,19 @@ module _ (f : Operation) (op : IsOperation f) (lang : LanguageView) (good : IsLa
     many = made.many;
     tuples = made.tuples;
     kept = λ i d h.
-        (kept_family most log few).parts (vars_of pairs) (vars_of some) (get_or made.parts i d) (get_or made.parts i d) narrow
+        (kept_family most log few).parts (vars_of pairs) (vars_of some) (get_or made.parts i d)
+        (get_or made.parts i d) narrow
         (λ k d h. refl) (made.kept i d h);
     holds = λ k d h.
-        All-contains (λ (p : Pair). get_or (image f n made.parts) p.variable 0 ≡ p.value) pairs (get_or some k d) made.holds (within k d h);
+        All-contains (λ (p : Pair). get_or (image f n made.parts) p.variable 0 ≡ p.value) pairs
+        (get_or some k d) made.holds (within k d h);
   }
     where
       narrow : AreAmong (vars_of some) (vars_of pairs)
       narrow x inside =
           let p = pair_of_var some x inside in
-          subst (Contains (vars_of pairs)) p.2 (in_vars_of pairs p.0 (All-contains (Contains pairs) some p.0 within p.1))
+          subst (Contains (vars_of pairs)) p.2
+          (in_vars_of pairs p.0 (All-contains (Contains pairs) some p.0 within p.1))
 
   module _ (extends : Extends f.domain n most (KeptBy log)) (unbroken : BreaksNone lang inst most (KeptBy log)) where
     -- where the nogood of a step is made, so is it with one of the step's cases
@@ -295,5 +316,6 @@ module _ (f : Operation) (op : IsOperation f) (lang : LanguageView) (good : IsLa
         cases : HoldsCases lang inst (IsMade f n log) log
         cases i h made =
             let step = valid i h in
-            step_made (step_at log i).basis (nogood_at log i) (step_at log i).references (few i no_step h) step.placed.is_nogood
+            step_made (step_at log i).basis (nogood_at log i) (step_at log i).references
+            (few i no_step h) step.placed.is_nogood
             step.placed.rests step.referred.as_many (by_variables i no_step h) made

@@ -29,7 +29,8 @@ module _ (f : Operation) (near : IsNearUnanimity f) (n most : ℕ) (size : f.ari
   -- the tuple that it reads at a constraint's scope is one of the rows, where few places never exclude it
   read_kept : (r : RelationView) → All (IsTuple f.domain r.arity) r.rows → Preserves f r
       → (scope : List ℕ) → length scope ≡ r.arity → AreKnown n scope
-      → ((vars a : List ℕ) → IsTuple f.domain n a → AreKnown n vars → length vars ≤ most → Kept vars a → Supports r.rows scope vars a)
+      → ((vars a : List ℕ) → IsTuple f.domain n a → AreKnown n vars → length vars ≤ most → Kept vars a
+      → Supports r.rows scope vars a)
       → (a : List ℕ) → IsTuple f.domain n a → Kept (firsts n) a
       → Contains r.rows (read_at a scope)
   read_kept r tuples preserves scope long known support a is kept =
@@ -37,11 +38,13 @@ module _ (f : Operation) (near : IsNearUnanimity f) (n most : ℕ) (size : f.ari
       (record { tuples = λ t m. All-contains (IsTuple f.domain r.arity) r.rows t tuples m; images = preserves })
       (read_at a scope) (IsTuple-read_at f.domain n r.arity a scope is known long) (omega arith) part
     where
-      part : (places : List ℕ) → All (λ j. j < r.arity) places → length places < f.arity → Agrees (Contains r.rows) (read_at a scope) places
+      part : (places : List ℕ) → All (λ j. j < r.arity) places → length places < f.arity
+          → Agrees (Contains r.rows) (read_at a scope) places
       part places inside short =
           let vars : List ℕ = map (λ j. get_or scope j 0) places in
           let counted : length vars ≡ length places = length-map places (λ j. get_or scope j 0) in
-          let below : AreKnown n vars = All-map (λ v. v < n) (λ j. get_or scope j 0) places (λ i d h. known (get_or places i d) 0 (rw long (inside i d h))) in
+          let below : AreKnown n vars = All-map (λ v. v < n) (λ j. get_or scope j 0) places
+          (λ i d h. known (get_or places i d) 0 (rw long (inside i d h))) in
           let among : AreAmong vars (firsts n) = λ x m. in_firsts n x (All-contains (λ v. v < n) vars x below m) in
           let s : Supports r.rows scope vars a
           = support vars a is below (omega arith) (family.parts (firsts n) vars a a among (λ k d h. refl) kept) in
@@ -71,17 +74,21 @@ kept_solution f lang most is_near good inst fits Kept family unbroken a is kept 
       let r : RelationView = relation_of lang k.relation in
       let over : IsRelationOver lang.domain r = good.relations_are k.relation no_named fit.known in
       let tuples : All (IsTuple f.domain r.arity) r.rows
-      = subst (λ (d : ℕ). All (IsTuple d r.arity) r.rows) (over.same_domain ∙ sym is_near.domain_is) over.is_relation.tuples in
+      = subst (λ (d : ℕ). All (IsTuple d r.arity) r.rows)
+      (over.same_domain ∙ sym is_near.domain_is) over.is_relation.tuples in
       let to_lang : (b : List ℕ) → IsTuple f.domain n b → IsTuple lang.domain n b
       = λ b t. subst (λ (d : ℕ). IsTuple d n b) is_near.domain_is t in
-      read_kept f is_near.near_unanimity n most is_near.arity_is Kept family r tuples (is_near.preserves k.relation no_named fit.known)
-      k.scope fit.long fit.below (λ vars b t known short kept. unbroken.support c vars b inside (to_lang b t) known short kept)
+      read_kept f is_near.near_unanimity n most is_near.arity_is Kept family r tuples
+      (is_near.preserves k.relation no_named fit.known)
+      k.scope fit.long fit.below (λ vars b t known short kept. unbroken.support c vars b inside
+      (to_lang b t) known short kept)
       a (subst (λ (d : ℕ). IsTuple d n a) (sym is_near.domain_is) is) kept);
 }
 
 -- ---- finished logs
 
-module _ (lang : LanguageView) (most : ℕ) (f : Operation) (is_near : IsNearUnanimityFor lang most f) (good : IsLanguage lang)
+module _ (lang : LanguageView) (most : ℕ) (f : Operation) (is_near : IsNearUnanimityFor lang most f)
+    (good : IsLanguage lang)
     (inst : InstanceView) (fits : Fits lang inst) (log : List StepView) (finished : IsFinished lang inst most log) where
   abbrev n : ℕ
   n = length inst.variables
@@ -90,13 +97,15 @@ module _ (lang : LanguageView) (most : ℕ) (f : Operation) (is_near : IsNearUna
   family = kept_family most log finished.fits.small
 
   extends : Extends f.domain n most (KeptBy log)
-  extends = subst (λ (d : ℕ). Extends d n most (KeptBy log)) (sym is_near.domain_is) (settled_extends lang inst most log finished.settled)
+  extends = subst (λ (d : ℕ). Extends d n most (KeptBy log)) (sym is_near.domain_is)
+      (settled_extends lang inst most log finished.settled)
 
   unbroken : BreaksNone lang inst most (KeptBy log)
   unbroken = settled_breaks_none lang inst most log finished.settled good fits
 
   preserved : IsPreserved f n most (KeptBy log)
-  preserved = kept_preserved f is_near.is_operation lang good is_near.domain_is is_near.preserves inst fits most log finished.fits.small
+  preserved = kept_preserved f is_near.is_operation lang good is_near.domain_is is_near.preserves inst fits most
+      log finished.fits.small
       extends unbroken finished.valid finished.by_variables
 
   -- an assignment that is kept at the first variables takes a value at the next one with which it is kept there too
@@ -104,8 +113,10 @@ module _ (lang : LanguageView) (most : ℕ) (f : Operation) (is_near : IsNearUna
       → Extended lang.domain (KeptBy log) (firsts v) a v
   kept_next a is v further kept =
       let more : Extended f.domain (KeptBy log) (firsts v) a v
-      = extends_all f is_near.is_operation is_near.near_unanimity n most is_near.arity_is (KeptBy log) family extends preserved a
-      (subst (λ (d : ℕ). IsTuple d n a) (sym is_near.domain_is) is) v further (firsts v) (firsts_known n v (omega arith)) (firsts_distinct v)
+      = extends_all f is_near.is_operation is_near.near_unanimity n most is_near.arity_is
+      (KeptBy log) family extends preserved a
+      (subst (λ (d : ℕ). IsTuple d n a) (sym is_near.domain_is) is) v further (firsts v)
+      (firsts_known n v (omega arith)) (firsts_distinct v)
       (λ m. absurd (omega (arith, firsts_below v v m))) kept in
       subst (λ (d : ℕ). Extended d (KeptBy log) (firsts v) a v) is_near.domain_is more
 
@@ -125,7 +136,11 @@ module _ (lang : LanguageView) (most : ℕ) (f : Operation) (is_near : IsNearUna
   kept_up_to : (k : ℕ) → k ≤ n → KeptAt lang.domain n (KeptBy log) (firsts k)
   kept_up_to zero few = record {
     assignment = replicate n 0;
-    tuple = record { long = length-replicate n 0; below = All-replicate (λ v. v < lang.domain) n 0 good.domain_is.some };
+    tuple = record {
+      long = length-replicate n 0;
+      below = All-replicate
+          (λ v. v < lang.domain) n 0 good.domain_is.some;
+    };
     kept = kept_none (replicate n 0);
   }
   kept_up_to (suc k) few = more (kept_up_to k (omega arith))

@@ -9,6 +9,7 @@ pub mod KeptSolutions
 pub mod GivenPairs
 pub mod NextValues
 pub mod ScopeCases
+pub mod OpenMasks
 pub mod MaskLemmas
 pub mod PushLemmas
 pub mod RankLemmas

@@ -1,8 +1,8 @@
 -- A finished log gives a solution value by value: values that avoid it go on, and all of them together are a solution.
-use Rattle.std.proofs.Common.{◌≡◌, ◌≢◌, ℕ, suc, ◌-◌, ◌<◌, List, [], ◌∷◌, ◌++◌, length, All, Contains, arith, ap, get_or, set, replicate, inl, inr, refl, sym, ◌∙◌, ◌⊎◌, subst, length-append, append-nil}
+use Rattle.std.proofs.Common.{AllPairs, ◌+◌, ◌≡◌, ◌≢◌, ℕ, suc, ◌-◌, ◌<◌, List, [], ◌∷◌, ◌++◌, length, All, Contains, arith, ap, get_or, set, replicate, inl, inr, refl, sym, ◌∙◌, ◌⊎◌, subst, length-append, append-nil}
 use Rattle.std.proofs.lemmas.Bool.{cases_eq}
 use Rattle.std.proofs.lemmas.List.{get_or_push, get_or_append_left, length_push, length-replicate, get_or-set_same, get_or-set_other}
-use Rattle.std.proofs.lemmas.List.Elements.{All-append, All-replicate, All-from_get_or}
+use Rattle.std.proofs.lemmas.List.Elements.{All-push, All-nil, All-append, All-replicate, All-from_get_or}
 use Rattle.pol_base.specs.Tuples.{IsTuple}
 use Rattle.pol_relation.specs.Relations.{LanguageView, IsLanguage}
 use Rattle.pol_relation.specs.Instances.{InstanceView, Fits, IsSolution}
@@ -16,9 +16,11 @@ use Rattle.pol_strong.proofs.GivenPairs.{IsGiven, in_given, given_is}
 use Rattle.pol_strong.proofs.KeptSolutions.{kept_next, kept_all}
 
 -- an assignment that begins with values that avoid the log is kept at their variables
-avoided_kept : (log : List StepView) (values more : List ℕ) → Avoids log values → KeptBy log (firsts (length values)) (values ++ more)
+avoided_kept : (log : List StepView) (values more : List ℕ) → Avoids log values
+    → KeptBy log (firsts (length values)) (values ++ more)
 avoided_kept log values more avoids =
-    All-from_get_or (λ (s : StepView). ¬ HeldAt (firsts (length values)) (values ++ more) s.nogood) log no_step (λ i inside held.
+    All-from_get_or (λ (s : StepView). ¬ HeldAt (firsts (length values)) (values ++ more) s.nogood) log no_step
+    (λ i inside held.
     avoids (record {
       step = i;
       known = inside;
@@ -37,14 +39,45 @@ pub record NextValue (d : ℕ) (log : List StepView) (values : List ℕ) : Type 
   pub below : value < d
   pub avoids : Avoids log (values ++ value ∷ [])
 
-module _ (lang : LanguageView) (good : IsLanguage lang) (inst : InstanceView) (fits : Fits lang inst) (log : List StepView)
+-- values of the first variables that avoid the log
+pub record IsBegun (d : ℕ) (log : List StepView) (count : ℕ) (values : List ℕ) : Type 0 where
+  pub tuple : IsTuple d count values
+  pub avoids : Avoids log values
+
+pub begun_push : (d : ℕ) (log : List StepView) (count : ℕ) (values : List ℕ) (value : ℕ) → IsBegun d log count values
+    → value < d
+    → Avoids log (values ++ value ∷ [])
+    → IsBegun d log (count + 1) (values ++ value ∷ [])
+begun_push d log count values value begun below avoids = record {
+  tuple = record {
+    long = omega (arith, begun.tuple.long, length_push values value);
+    below = All-push (λ v. v < d) values value begun.tuple.below below;
+  };
+  avoids = avoids;
+}
+
+module _ (lang : LanguageView) (good : IsLanguage lang) (inst : InstanceView) (fits : Fits lang inst)
+    (log : List StepView)
     (decided : IsDecided lang inst log) where
   abbrev n : ℕ
   n = length inst.variables
 
+  pub log_ascends : All (λ s. AllPairs (λ p q. p.variable < q.variable) s.nogood) log
+  log_ascends =
+      All-from_get_or (λ (s : StepView). AllPairs (λ p q. p.variable < q.variable) s.nogood) log no_step
+      (λ i inside. (decided.finished.valid i inside).placed.is_nogood.ascending)
+
+  pub log_below : All (λ s. All (λ p. p.value < 5) s.nogood) log
+  log_below =
+      All-from_get_or (λ (s : StepView). All (λ p. p.value < 5) s.nogood) log no_step
+      (λ i inside k e within.
+      let pair = (decided.finished.valid i inside).placed.is_nogood.pairs k e within in
+      omega (arith, pair.value_known, good.domain_is.few))
+
   -- no value avoids it
   pub avoided_none : Avoids log []
-  avoided_none found = by (nogood_at log found.step) (decided.finished.nonempty found.step no_step found.known) found.within
+  avoided_none found = by (nogood_at log found.step)
+      (decided.finished.nonempty found.step no_step found.known) found.within
     where
       by : (nogood : List Pair) → nogood ≢ [] → IsContained nogood (given []) → ⊥
       by [] some within = some refl
@@ -64,7 +97,8 @@ module _ (lang : LanguageView) (good : IsLanguage lang) (inst : InstanceView) (f
             (All-replicate (λ v. v < lang.domain) (n - length values) 0 good.domain_is.some);
       } in
       from whole long (λ j h. get_or_append_left values more 0 j h)
-      (kept_next lang decided.most decided.operation decided.is_near good inst fits log decided.finished whole tuple (length values) further
+      (kept_next lang decided.most decided.operation decided.is_near good inst fits log decided.finished whole
+      tuple (length values) further
       (avoided_kept log values more avoids))
     where
       from : (whole : List ℕ) → length whole ≡ n → ((j : ℕ) → j < length values → get_or whole j 0 ≡ get_or values j 0)
@@ -79,26 +113,35 @@ module _ (lang : LanguageView) (good : IsLanguage lang) (inst : InstanceView) (f
       }
         where
           held : (p : Pair) → IsGiven (values ++ next.value ∷ []) p
-              → Contains (firsts (suc (length values))) p.variable × (get_or (set whole (length values) next.value) p.variable 0 ≡ p.value)
-          held p is = (in_firsts (suc (length values)) p.variable (omega (arith, is.below, length_push values next.value)),
-              by (cases_eq p.variable (length values)) ∙ is.value_is)
+              → Contains (firsts (suc (length values)))
+              p.variable × (get_or (set whole (length values) next.value) p.variable 0 ≡ p.value)
+          held p is = (
+            in_firsts (suc (length values)) p.variable (omega (arith, is.below, length_push values next.value)),
+            by (cases_eq p.variable (length values)) ∙ is.value_is,
+          )
             where
-              v : ℕ
-              v = length values
-
               by : (p.variable ≡ length values) ⊎ (p.variable ≡ length values → ⊥)
-                  → get_or (set whole (length values) next.value) p.variable 0 ≡ get_or (values ++ next.value ∷ []) p.variable 0
+                  → get_or (set whole (length values) next.value) p.variable 0 ≡ get_or
+                  (values ++ next.value ∷ []) p.variable 0
               by (inl last) =
                   ap (λ x. get_or (set whole (length values) next.value) x 0) last
                   ∙ (get_or-set_same whole (length values) next.value 0 (omega (arith, long, further))
                   ∙ sym (get_or_push values next.value 0 p.variable (sym last)))
               by (inr apart) =
-                  let before : p.variable < length values = omega (arith, apart, is.below, length_push values next.value) in
+                  let before : p.variable < length values
+                  = omega (arith, apart, is.below, length_push values next.value) in
                   get_or-set_other whole (length values) p.variable next.value 0 apart
                   ∙ (same p.variable before ∙ sym (get_or_append_left values (next.value ∷ []) 0 p.variable before))
 
+  pub begun_none : IsBegun lang.domain log 0 []
+  begun_none = record {
+    tuple = record { long = refl; below = All-nil (λ v. v < lang.domain) };
+    avoids = avoided_none;
+  }
+
   -- values of all variables that avoid it are a solution
-  pub avoided_solution : (values : List ℕ) → IsTuple lang.domain n values → Avoids log values → IsSolution lang inst values
+  pub avoided_solution : (values : List ℕ) → IsTuple lang.domain n values → Avoids log values
+      → IsSolution lang inst values
   avoided_solution values tuple avoids =
       kept_all lang decided.most decided.operation decided.is_near good inst fits log decided.finished values tuple
       (rw tuple.long at (whole_kept values (avoided_kept log values [] avoids)))

@@ -1,10 +1,10 @@
 -- A log is finished where each constraint has cases on its own scope, each nogood with a pair has open values, and each
 -- variable has a value that is left.
-use Rattle.std.proofs.Common.{◌≡◌, ◌≢◌, ℕ, suc, ◌+◌, ◌-◌, ◌<◌, ◌≤◌, Bool, true, not, List, [], ◌∷◌, ◌++◌, length, All, Contains, filter, arith, ap, get_or, inl, inr, refl, sym, ◌⊎◌, subst}
+use Rattle.std.proofs.Common.{◌≡◌, ◌≢◌, ℕ, ◌<◌, Bool, true, not, List, [], ◌∷◌, ◌++◌, length, All, Contains, filter, arith, ap, get_or, inl, inr, refl, sym, ◌⊎◌, subst}
 use Rattle.std.specs.Prelude.{◌==◌}
 use Rattle.std.specs.List.{list_any}
 use Rattle.std.proofs.lemmas.Bool.{eqb-true, eq-eqb}
-use Rattle.std.proofs.lemmas.List.Elements.{Contains-get_or, All-contains, All-head, All-filter, All-weaker, Contains-append_cases, Contains-append_left, Contains-append_right, All-contains_itself, filter_passes}
+use Rattle.std.proofs.lemmas.List.Elements.{Contains-get_or, All-contains, All-filter, All-weaker, Contains-append_cases, Contains-append_left, Contains-append_right, All-contains_itself, filter_passes}
 use Rattle.std.proofs.lemmas.List.Filters.{length-filter_both}
 use Rattle.std.proofs.lemmas.List.Folds.{Any-from_list_any, list_any_at}
 use Rattle.std.proofs.lemmas.List.Kept.{AllPairs-filter}
@@ -12,7 +12,7 @@ use Rattle.pol_base.proofs.MemberLemmas.{Contains-here, Contains-there, Contains
 use Rattle.pol_relation.specs.Relations.{LanguageView}
 use Rattle.pol_relation.specs.Instances.{InstanceView, ConstraintView}
 use Rattle.pol_nogood.specs.Nogoods.{Pair, IsPair, IsNogood, IsContained}
-use Rattle.pol_nogood.specs.Logs.{StepView, no_step, nogood_at, reading, is_case, value_case}
+use Rattle.pol_nogood.specs.Logs.{StepView, no_step, nogood_at, reading, is_case}
 use Rattle.pol_nogood.specs.ValidLogs.{AreValid}
 use Rattle.pol_nogood.proofs.LogCases.{Agree, case_from_test, test_from_case}
 use Rattle.pol_nogood.proofs.LogMaking.{IsContained-trans}
@@ -20,7 +20,8 @@ use Rattle.pol_strong.specs.Contradictions.{IsContradicted, IsOpen, AreOpen, Has
 use Rattle.pol_strong.specs.Finished.{IsSmall, AllSettled, HasScopeCases, AllOpen, HasValue}
 
 -- what contains a nogood of the log in a part of it does as a whole
-pub contradicted_within : (log : List StepView) (some nogood : List Pair) → IsContained some nogood → IsContradicted log some
+pub contradicted_within : (log : List StepView) (some nogood : List Pair) → IsContained some nogood
+    → IsContradicted log some
     → IsContradicted log nogood
 contradicted_within log some nogood inside found = record {
   step = found.step;
@@ -39,7 +40,8 @@ on_scope scope nogood = filter (is_on scope) nogood
 
 is_on-true : (scope : List ℕ) (p : Pair) → Contains scope p.variable → is_on scope p ≡ true
 is_on-true scope p inside =
-    list_any_at (λ y. y == p.variable) scope inside.0 p.variable inside.1 (eq-eqb (get_or scope inside.0 p.variable) p.variable inside.2)
+    list_any_at (λ y. y == p.variable) scope inside.0 p.variable inside.1
+    (eq-eqb (get_or scope inside.0 p.variable) p.variable inside.2)
 
 true-is_on : (scope : List ℕ) (p : Pair) → is_on scope p ≡ true → Contains scope p.variable
 true-is_on scope p passes =
@@ -51,7 +53,8 @@ true-is_on scope p passes =
 reading_on : (scope row : List ℕ) (p : Pair) → Contains (reading scope row) p → Contains scope p.variable
 reading_on [] row p inside = absurd (Contains-nil p inside)
 reading_on (x ∷ scope) [] p inside = absurd (Contains-nil p inside)
-reading_on (x ∷ scope) (v ∷ row) p inside = by (Contains-cons_cases (record { variable = x; value = v }) p (reading scope row) inside)
+reading_on (x ∷ scope) (v ∷ row) p inside =
+    by (Contains-cons_cases (record { variable = x; value = v }) p (reading scope row) inside)
     (reading_on scope row p)
   where
     by : (record { variable = x; value = v } ≡ p) ⊎ Contains (reading scope row) p
@@ -61,19 +64,22 @@ reading_on (x ∷ scope) (v ∷ row) p inside = by (Contains-cons_cases (record 
     by (inr later) rest = Contains-there x p.variable scope (rest later)
 
 -- a row that is a case of the pairs on the scope is one of the whole nogood
-case_on_scope : (scope row : List ℕ) (nogood : List Pair) → is_case scope (on_scope scope nogood) row ≡ true → is_case scope nogood row ≡ true
+case_on_scope : (scope row : List ℕ) (nogood : List Pair) → is_case scope (on_scope scope nogood) row ≡ true
+    → is_case scope nogood row ≡ true
 case_on_scope scope row nogood passes = test_from_case scope nogood row (λ k d inside.
     let p : Pair = get_or (reading scope row) k d in
     let read : Contains (reading scope row) p = Contains-get_or (reading scope row) k d inside in
     let agrees : All (Agree p) (reading scope row ++ on_scope scope nogood)
     = case_from_test scope (on_scope scope nogood) row passes k d inside in
     λ j e within same.
-        let q : Pair = get_or (reading scope row ++ nogood) j e in
-        All-contains (Agree p) (reading scope row ++ on_scope scope nogood) q agrees
-        (kept p q (reading_on scope row p read) same
-        (Contains-append_cases (reading scope row) nogood q (Contains-get_or (reading scope row ++ nogood) j e within))) same)
+    let q : Pair = get_or (reading scope row ++ nogood) j e in
+    All-contains (Agree p) (reading scope row ++ on_scope scope nogood) q agrees
+    (kept p q (reading_on scope row p read) same
+    (Contains-append_cases (reading scope row) nogood q
+    (Contains-get_or (reading scope row ++ nogood) j e within))) same)
   where
-    kept : (p q : Pair) → Contains scope p.variable → p.variable ≡ q.variable → Contains (reading scope row) q ⊎ Contains nogood q
+    kept : (p q : Pair) → Contains scope p.variable → p.variable ≡ q.variable
+        → Contains (reading scope row) q ⊎ Contains nogood q
         → Contains (reading scope row ++ on_scope scope nogood) q
     kept p q on same (inl read) = Contains-append_left (reading scope row) (on_scope scope nogood) q read
     kept p q on same (inr inside) =
@@ -91,20 +97,27 @@ scope_cases lang inst most log c has nogood small free =
     let is_small : IsSmall n lang.domain most some = record {
       is_nogood = record {
         pairs = All-filter (is_on c.scope) (IsPair n lang.domain) nogood small.is_nogood.pairs;
-        ascending = AllPairs-filter (λ (p q : Pair). p.variable < q.variable) (is_on c.scope) nogood small.is_nogood.ascending;
+        ascending = AllPairs-filter (λ (p q : Pair). p.variable < q.variable)
+            (is_on c.scope) nogood small.is_nogood.ascending;
       };
-      few = let both = length-filter_both (is_on c.scope) (λ p. not (is_on c.scope p)) (λ p. refl) nogood in omega (arith, both, small.few);
+      few =
+          let both = length-filter_both (is_on c.scope) (λ p. not (is_on c.scope p)) (λ p. refl) nogood in
+          omega (arith, both, small.few);
     } in
     let on : All (λ p. Contains c.scope p.variable) some
-    = All-weaker (λ p. is_on c.scope p ≡ true) (λ p. Contains c.scope p.variable) (true-is_on c.scope) some (filter_passes (is_on c.scope) nogood) in
-    let inside : IsContained some nogood = All-filter (is_on c.scope) (Contains nogood) nogood (All-contains_itself nogood) in
-    let case : HasCase lang c some = has some is_small on (λ found. free (contradicted_within log some nogood inside found)) in
+    = All-weaker (λ p. is_on c.scope p ≡ true) (λ p. Contains c.scope p.variable) (true-is_on c.scope) some
+    (filter_passes (is_on c.scope) nogood) in
+    let inside : IsContained some nogood
+    = All-filter (is_on c.scope) (Contains nogood) nogood (All-contains_itself nogood) in
+    let case : HasCase lang c some
+    = has some is_small on (λ found. free (contradicted_within log some nogood inside found)) in
     record { row = case.row; listed = case.listed; is = case_on_scope c.scope case.row nogood case.is }
 
 -- ---- open values
 
 -- a nogood of pairs that are all one pair has no other pairs
-one_pair : (n d : ℕ) (nogood : List Pair) (p : Pair) → IsNogood n d nogood → nogood ≢ [] → IsContained nogood (p ∷ []) → nogood ≡ p ∷ []
+one_pair : (n d : ℕ) (nogood : List Pair) (p : Pair) → IsNogood n d nogood → nogood ≢ []
+    → IsContained nogood (p ∷ []) → nogood ≡ p ∷ []
 one_pair n d [] p is some within = absurd (some refl)
 one_pair n d (q ∷ []) p is some within = by (Contains-cons_cases p q [] (within 0 q (omega arith)))
   where
@@ -125,35 +138,19 @@ one_pair n d (q ∷ r ∷ rest) p is some within =
         one (inr none) = absurd (Contains-nil s none)
 
 -- where no step of a valid log is empty, a value that the log does not exclude by itself is open beside no pairs
-pub open_none : (lang : LanguageView) (inst : InstanceView) (log : List StepView) → AreValid lang inst log → All (λ s. s.nogood ≢ []) log
+left_is_open : (lang : LanguageView) (inst : InstanceView) (log : List StepView) → AreValid lang inst log
+    → All (λ s. s.nogood ≢ []) log
     → (v : ℕ) → HasValue lang.domain log v → IsOpen lang.domain log [] v
-open_none lang inst log valid nonempty v left = record {
+left_is_open lang inst log valid nonempty v left = record {
   value = left.value;
   below = left.below;
   free = λ found.
       let nogood : List Pair = nogood_at log found.step in
       left.left found.step no_step found.known
-      (one_pair (length inst.variables) lang.domain nogood (record { variable = v; value = left.value }) (valid found.step found.known).placed.is_nogood
+      (one_pair (length inst.variables) lang.domain nogood (record { variable = v; value = left.value })
+      (valid found.step found.known).placed.is_nogood
       (nonempty found.step no_step found.known) found.within);
 }
-
--- all small nogoods that have a pair go on from their first one
-pub all_open : (n d most : ℕ) (log : List StepView)
-    → ((x a : ℕ) → x < n → a < d → (more : List Pair)
-    → IsNogood n d (value_case x a ++ more)
-    → All (λ p. x + 1 ≤ p.variable) more
-    → length more ≤ most - 1
-    → ¬ IsContradicted log (value_case x a ++ more)
-    → AreOpen n d log (value_case x a ++ more))
-    → AllOpen n d most log
-all_open n d most log from [] small some free = absurd (some refl)
-all_open n d most log from (p ∷ more) small some free =
-    let first : IsPair n d p = All-head (IsPair n d) p more small.is_nogood.pairs in
-    let behind : All (λ q. p.variable + 1 ≤ q.variable) more = λ k e inside.
-    let less : p.variable < (get_or more k e).variable = small.is_nogood.ascending 0 (suc k) e (omega arith) (omega arith) in
-    omega (arith, less) in
-    let few : length more ≤ most - 1 = let short : suc (length more) ≤ most = small.few in omega arith in
-    from p.variable p.value first.variable_known first.value_known more small.is_nogood behind few free
 
 -- ---- all of it
 
@@ -164,14 +161,12 @@ pub all_settled : (lang : LanguageView) (inst : InstanceView) (most : ℕ) (log 
     → All (HasScopeCases lang inst most log) inst.constraints
     → AllSettled lang inst most log
 all_settled lang inst most log valid nonempty open_values left cases nogood small free = record {
-  cases = λ c d inside. scope_cases lang inst most log (get_or inst.constraints c d) (cases c d inside) nogood small free;
+  cases = λ c d inside. scope_cases lang inst most log (get_or inst.constraints c d)
+      (cases c d inside) nogood small free;
   values = by nogood small free;
 }
   where
     by : (nogood : List Pair) → IsSmall (length inst.variables) lang.domain most nogood → ¬ IsContradicted log nogood
         → AreOpen (length inst.variables) lang.domain log nogood
-    by [] small free = λ v known apart. open_none lang inst log valid nonempty v (left v known)
-    by (p ∷ rest) small free = open_values (p ∷ rest) small (has_pair p rest) free
-      where
-        has_pair : (p : Pair) (rest : List Pair) → p ∷ rest ≢ []
-        has_pair p rest same = absurd (omega (arith, ap (length {A = Pair}) same))
+    by [] small free = λ v known apart. left_is_open lang inst log valid nonempty v (left v known)
+    by (p ∷ rest) small free = open_values (p ∷ rest) small (omega arith) free

@@ -137,11 +137,7 @@ OnOk_then (Err e) here then = tt
 
 -- a sweep from the empty front comes to all nogoods
 pub open_from_none : (n d most : ℕ) (log : List StepView) → AllOpenFrom n d [] 0 most log → AllOpen n d most log
-open_from_none n d most log all = λ nogood small some free. all nogood small.is_nogood (has_pairs nogood some) (λ k e inside. omega arith) small.few free
-  where
-    has_pairs : (nogood : List Pair) → nogood ≢ [] → 1 ≤ length nogood
-    has_pairs [] some = absurd (some refl)
-    has_pairs (p ∷ rest) some = omega arith
+open_from_none n d most log all = λ nogood small some free. all nogood small.is_nogood some (λ k e inside. omega arith) small.few free
 
 -- what is left to delete is less behind a sweep that deleted something
 pub fewer_left : (lang : LanguageView) (inst : InstanceView) (Settled : List StepView → Type 0) (old new : StoreView) → Deletes lang inst Settled old new → length new.log ≢ length old.log

@@ -72,7 +72,7 @@ abbrev pub AllOpen : (n d most : ℕ) → List StepView → Type 0
 AllOpen n d most log =
     (nogood : List Pair)
     → IsSmall n d most nogood
-    → nogood ≢ []
+    → 1 ≤ length nogood
     → ¬ IsContradicted log nogood
     → AreOpen n d log nogood
 

@@ -1,5 +1,5 @@
-//! Instances of languages with a near-unanimity operation, solved by strong consistency with a log of
-//! its deletions.
+//! Instances over a language with a near unanimity operation, solved by strong consistency with a log
+//! of its deletions.
 #![tactic(auto)]
 
 mod closing;
@@ -10,5 +10,6 @@ mod parts;
 mod scopes;
 mod store;
 mod sweeping;
+mod values;
 
 pub use store::Store;
