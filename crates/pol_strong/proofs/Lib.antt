@@ -21,3 +21,4 @@ pub mod InsertLemmas
 pub mod PartLemmas
 pub mod ScopeLemmas
 pub mod CoverLemmas
+pub mod EndLemmas

@@ -1,7 +1,10 @@
-ghost use Rattle.std.specs.Prelude.{◌≡◌, ◌≢◌, ◌+◌, ◌<◌, ◌≤◌, ◌++◌, length, All, IfOk, OnOk, IfSome, IfNone, IsTrue};
+ghost use Rattle.std.specs.Prelude.{◌≡◌, ◌≢◌, ℕ, ◌+◌, ◌<◌, ◌≤◌, ◌++◌, length, All, IfOk, OnOk, IfSome, IfNone, IsTrue};
+ghost use Rattle.std.specs.Bool.{OnTrue, OnFalse};
 ghost use Rattle.pol_nogood.specs.Nogoods.{IsNogood};
 ghost use Rattle.pol_nogood.specs.Logs.{value_cases};
 ghost use Rattle.pol_nogood.specs.ValidLogs.{HasReferences};
+ghost use Rattle.pol_nogood.specs.Answers.{IsCertificate};
+ghost use Rattle.pol_strong.specs.Finished.{HasValue};
 ghost use Rattle.pol_strong.specs.Contradictions.{IsContradicted, IsOpen};
 ghost use Rattle.pol_strong.specs.Sweeps.{AreBeside, IsDeleting, Deletes, OpenHere};
 
@@ -111,6 +114,33 @@ pub(crate) fn delete_by_variable(
     for v in 0..inst.variables() {
         if let Some(refs) = closing_references(alloc, store, front, masks, v, d)? {
             return delete_front(lang, inst, store, front, v, refs);
+        }
+    }
+    Ok(false)
+}
+
+/// Deletes the empty nogood where each value of some variable is deleted alone. Whether it is; the log
+/// then ends with it.
+pub(crate) fn delete_empty(
+    alloc: Global,
+    lang: &Language,
+    inst: &Instance,
+    store: &mut Store,
+) -> Result<bool, NoMemory>
+    requires few { length inst.now.variables ≤ 40 }
+    requires deleting { IsDeleting lang.now inst.now store.old }
+    ensures deleted { IfOk result (λ deleted. OnTrue deleted (IsCertificate store.old.most lang.now inst.now store.new.log)) }
+    ensures same { IfOk result (λ deleted. OnFalse deleted (store.new ≡ store.old)) }
+    ensures left { IfOk result (λ deleted. OnFalse deleted
+        ((v : ℕ) → v < length inst.now.variables → HasValue lang.now.domain store.old.log v)) }
+{
+    let _most = store.most();
+    let d = lang.domain().size();
+    for v in 0..inst.variables() {
+        if let Some(refs) = references(alloc, store, &Nogood::new(), v, d)? {
+            let nogood = Nogood::new();
+            store.put(Step::ByVariable { v, nogood, refs })?;
+            return Ok(true);
         }
     }
     Ok(false)

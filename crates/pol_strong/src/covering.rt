@@ -4,6 +4,7 @@ ghost use Rattle.pol_relation.specs.Relations.{rows_of};
 ghost use Rattle.pol_relation.specs.Instances.{Fits, constraint_of};
 ghost use Rattle.pol_nogood.specs.Nogoods.{IsNogood};
 ghost use Rattle.pol_nogood.specs.Logs.{value_case};
+ghost use Rattle.pol_nogood.specs.Answers.{IsCertificate};
 ghost use Rattle.pol_strong.specs.Contradictions.{IsContradicted, HasCase};
 ghost use Rattle.pol_strong.specs.Finished.{HasScopeCases};
 ghost use Rattle.pol_strong.specs.Sweeps.{IsDeleting};
@@ -154,4 +155,58 @@ fn cover(
         x = next_variable(scope, x + 1, n);
     }
     Ok(())
+}
+
+/// Deletes what has no case of the constraint `c`. Whether that is the empty nogood, where no row of its
+/// relation reads one value for each variable; the log then ends with it.
+fn cover_constraint(
+    alloc: Global,
+    lang: &Language,
+    inst: &Instance,
+    c: u32,
+    store: &mut Store,
+) -> Result<bool, NoMemory>
+    requires few { length inst.now.variables ≤ 40 }
+    requires fits { Fits lang.now inst.now }
+    requires deleting { IsDeleting lang.now inst.now store.old }
+    requires known { c < length inst.now.constraints }
+    ensures broken { IfOk result (λ broken. OnTrue broken (IsCertificate store.old.most lang.now inst.now store.new.log)) }
+    ensures covered { IfOk result (λ broken. OnFalse broken
+        (Adds lang.now inst.now (λ log. HasScopeCases lang.now inst.now store.old.most log (constraint_of inst.now c)) store.old store.new)) }
+{
+    let most = store.most();
+    let relation = lang.relation(inst.relation_of(c));
+    let _arity = relation.arity();
+    let rows = agreeing_rows(alloc, relation, inst.scope(c))?;
+    if rows.as_slice().is_empty() {
+        let nogood = Nogood::new();
+        let refs = Numbers::new(alloc);
+        store.put(Step::ByConstraint { c, nogood, refs })?;
+        return Ok(true);
+    }
+    cover(alloc, lang, inst, c, store, &Nogood::new(), rows.as_slice(), 0, most)?;
+    Ok(false)
+}
+
+/// Deletes what has no case of a constraint, for each nogood on the scope of the constraint. Whether that
+/// is the empty nogood; the log then ends with it.
+pub(crate) fn cover_all(
+    alloc: Global,
+    lang: &Language,
+    inst: &Instance,
+    store: &mut Store,
+) -> Result<bool, NoMemory>
+    requires few { length inst.now.variables ≤ 40 }
+    requires fits { Fits lang.now inst.now }
+    requires deleting { IsDeleting lang.now inst.now store.old }
+    ensures broken { IfOk result (λ broken. OnTrue broken (IsCertificate store.old.most lang.now inst.now store.new.log)) }
+    ensures covered { IfOk result (λ broken. OnFalse broken
+        (Adds lang.now inst.now (λ log. All (HasScopeCases lang.now inst.now store.old.most log) inst.now.constraints) store.old store.new)) }
+{
+    for c in 0..inst.constraints() {
+        if cover_constraint(alloc, lang, inst, c, store)? {
+            return Ok(true);
+        }
+    }
+    Ok(false)
 }

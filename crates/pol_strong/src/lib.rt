@@ -8,8 +8,9 @@ mod masks;
 mod nogoods;
 mod parts;
 mod scopes;
+mod solving;
 mod store;
 mod sweeping;
 mod values;
 
-pub use store::Store;
+pub use solving::solve_nu;
