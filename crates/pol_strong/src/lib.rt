@@ -14,3 +14,6 @@ mod sweeping;
 mod values;
 
 pub use solving::solve_nu;
+
+#[cfg(test)]
+mod tests;

@@ -85,7 +85,16 @@ pub(crate) fn sweep(
         for x in low..inst.variables() {
             for a in 0..d {
                 if let Some(next) = next_masks(store, front, masks, x, a) {
-                    sweep(alloc, lang, inst, store, &joined(front, x, a), &next, x + 1, most - 1)?;
+                    sweep(
+                        alloc,
+                        lang,
+                        inst,
+                        store,
+                        &joined(front, x, a),
+                        &next,
+                        x + 1,
+                        most - 1,
+                    )?;
                 }
             }
         }
