@@ -215,7 +215,12 @@ impl Pruning {
     }
 
     /// Looks at the constraints that wait, until none waits or some variable has no value left.
-    pub(crate) fn settle(&mut self, alloc: Global, lang: &Language, inst: &Instance) -> Result<(), NoMemory>
+    pub(crate) fn settle(
+        &mut self,
+        alloc: Global,
+        lang: &Language,
+        inst: &Instance,
+    ) -> Result<(), NoMemory>
         requires fits { Fits lang.now inst.now }
         requires few { length inst.now.variables ≤ 40 }
         requires pruned { IsPruned lang.now inst.now self.old.masks.items self.old.log }
