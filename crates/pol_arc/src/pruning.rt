@@ -42,6 +42,7 @@ impl Pruning {
         ensures log { self.new.log ≡ self.old.log }
         ensures waits { self.new.waits.items ≡ self.old.waits.items }
     {
+        // for its clause that a domain has at most 5 values
         let _size = d.size();
         self.masks[x as usize] = without(self.masks[x as usize], a);
     }
@@ -85,7 +86,6 @@ impl Pruning {
         ensures again { OnOk result (IsDone self.new.waits.items c → length self.new.log ≤ length self.old.log) }
     {
         let d = lang.domain();
-        let _size = d.size();
         let x = inst.scope(c)[j];
         if !has_value(self.masks[x as usize], a) {
             return Ok(());
