@@ -51,7 +51,7 @@ fn reports_of_small_files(rt: HostRuntime) -> Result<(), Fail> {
         ),
         (
             b"polyanna 1|domain 2|relation h 3|tuple 0 0 0|tuple 0 0 1|tuple 0 1 0|tuple 0 1 1|tuple 1 0 0|tuple 1 0 1|tuple 1 1 1|relation zero 1|tuple 0|relation one 1|tuple 1|instance a p q r|constraint one p|constraint one q|constraint h p q r|constraint zero r|instance b p q r|constraint one p|constraint one q|constraint h p q r|end|",
-            b"polyanna-report 1|class constant none|class semilattice 0 0 0 1|class set-function 0 1 0|class majority none|class nu4 none|class affine none|class maltsev none|instance a undecided|instance b undecided|end|",
+            b"polyanna-report 1|class constant none|class semilattice 0 0 0 1|class set-function 0 1 0|class majority none|class nu4 none|class affine none|class maltsev none|instance a no semilattice 5|c 0 1 0 0 0|c 1 1 1 0 0|c 2 1 2 0 3 0 0 1|c 3 1 2 1 0|v 2 0 2 2 3|instance b yes semilattice 1 1 1|end|",
         ),
         (
             b"polyanna 1|domain 3|relation s0 3|tuple 0 0 0|tuple 0 1 2|tuple 0 2 1|tuple 1 0 2|tuple 1 1 1|tuple 1 2 0|tuple 2 0 1|tuple 2 1 0|tuple 2 2 2|relation s1 3|tuple 0 0 1|tuple 0 1 0|tuple 0 2 2|tuple 1 0 0|tuple 1 1 2|tuple 1 2 1|tuple 2 0 2|tuple 2 1 1|tuple 2 2 0|relation zero 1|tuple 0|instance i x y z|constraint s0 x y z|constraint s1 x y z|instance j x y|constraint zero x|constraint s1 x x y|end|",
@@ -82,7 +82,7 @@ fn reports_of_further_classes(rt: HostRuntime) -> Result<(), Fail> {
         ),
         (
             b"polyanna 1|domain 3|relation pp 3|tuple 0 0 0|tuple 0 2 2|tuple 2 0 2|tuple 2 2 0|relation one 1|tuple 1|instance a x|constraint one x|instance b x y|constraint one x|constraint pp x y y|end|",
-            b"polyanna-report 1|class constant none|class semilattice none|class set-function 0 1 0 0 0 0 0|class majority none|class nu4 none|class affine none|class maltsev 0 1 2 0 0 0 2 0 0 1 0 0 0 1 2 0 0 1 2 0 0 0 2 0 0 1 2|instance a undecided|instance b undecided|end|",
+            b"polyanna-report 1|class constant none|class semilattice none|class set-function 0 1 0 0 0 0 0|class majority none|class nu4 none|class affine none|class maltsev 0 1 2 0 0 0 2 0 0 1 0 0 0 1 2 0 0 1 2 0 0 0 2 0 0 1 2|instance a yes set-function 1|instance b no set-function 4|c 0 1 0 0 0|c 0 1 0 2 0|c 1 1 0 1 0|v 0 0 3 0 2 1|end|",
         ),
         (
             b"polyanna 1|domain 3|relation qq 3|tuple 0 0 0|tuple 0 0 1|tuple 0 1 0|tuple 0 1 1|tuple 1 0 0|tuple 1 0 1|tuple 1 1 0|relation nn 2|tuple 0 2|tuple 2 0|instance a x y|constraint qq x x x|constraint nn x y|instance b x|constraint qq x x x|constraint nn x x|end|",
