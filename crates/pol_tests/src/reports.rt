@@ -31,7 +31,7 @@ fn reports_of_small_files(rt: HostRuntime) -> Result<(), Fail> {
         ),
         (
             b"polyanna 1|domain 2|relation neq 2|tuple 0 1|tuple 1 0|relation zero 1|tuple 0|instance p x y|constraint zero x|constraint neq x y|end|",
-            b"polyanna-report 1|class constant none|class semilattice none|class set-function none|class majority 0 0 0 1 0 1 1 1|class nu4 0 0 0 0 0 0 0 1 0 1 1 1 1 1 1 1|class affine 0 1 1 0 1 0 0 1|class maltsev 0 1 0 0 1 1 0 1|instance p undecided|end|",
+            b"polyanna-report 1|class constant none|class semilattice none|class set-function none|class majority 0 0 0 1 0 1 1 1|class nu4 0 0 0 0 0 0 0 1 0 1 1 1 1 1 1 1|class affine 0 1 1 0 1 0 0 1|class maltsev 0 1 0 0 1 1 0 1|instance p yes majority 0 1|end|",
         ),
         (
             b"polyanna 1|domain 3|relation le 2|tuple 2 2|tuple 1 1|relation e 1|instance a x y|constraint le x y|instance b x|constraint le x x|constraint e x|constraint e x|end|",
@@ -43,7 +43,7 @@ fn reports_of_small_files(rt: HostRuntime) -> Result<(), Fail> {
         ),
         (
             b"polyanna 1|domain 2|relation neq 2|tuple 0 1|tuple 1 0|instance tri x y z|constraint neq x y|constraint neq y z|constraint neq z x|end|",
-            b"polyanna-report 1|class constant none|class semilattice none|class set-function none|class majority 0 0 0 1 0 1 1 1|class nu4 0 0 0 0 0 0 0 1 0 1 1 1 1 1 1 1|class affine 0 1 1 0 1 0 0 1|class maltsev 0 1 0 0 1 1 0 1|instance tri undecided|end|",
+            b"polyanna-report 1|class constant none|class semilattice none|class set-function none|class majority 0 0 0 1 0 1 1 1|class nu4 0 0 0 0 0 0 0 1 0 1 1 1 1 1 1 1|class affine 0 1 1 0 1 0 0 1|class maltsev 0 1 0 0 1 1 0 1|instance tri no majority 13|c 0 2 0 0 1 0 0|c 0 2 0 1 1 1 0|c 1 2 1 0 2 0 0|c 1 2 1 1 2 1 0|c 2 2 0 0 2 0 0|c 2 2 0 1 2 1 0|v 2 2 0 0 1 1 2 4 3|v 2 2 0 1 1 0 2 2 5|v 0 1 1 0 2 0 7|v 0 1 1 1 2 6 1|v 1 1 0 0 2 8 9|v 1 1 0 1 2 8 9|v 0 0 2 10 11|end|",
         ),
         (
             b"polyanna 1|domain 3|relation neq 2|tuple 0 1|tuple 0 2|tuple 1 0|tuple 1 2|tuple 2 0|tuple 2 1|instance one x y|constraint neq x y|end|",
@@ -86,7 +86,7 @@ fn reports_of_further_classes(rt: HostRuntime) -> Result<(), Fail> {
         ),
         (
             b"polyanna 1|domain 3|relation qq 3|tuple 0 0 0|tuple 0 0 1|tuple 0 1 0|tuple 0 1 1|tuple 1 0 0|tuple 1 0 1|tuple 1 1 0|relation nn 2|tuple 0 2|tuple 2 0|instance a x y|constraint qq x x x|constraint nn x y|instance b x|constraint qq x x x|constraint nn x x|end|",
-            b"polyanna-report 1|class constant none|class semilattice none|class set-function none|class majority none|class nu4 0 0 0 0 0 0 0 0 0 0 0 0 0 1 0 0 0 0 0 0 0 0 0 0 0 0 2 0 0 0 0 1 0 0 0 0 0 1 0 1 1 1 0 1 0 0 0 0 0 1 0 0 0 2 0 0 2 0 0 0 2 0 2 0 0 0 0 1 0 0 0 2 2 0 2 0 0 2 2 2 2|class affine none|class maltsev none|instance a undecided|instance b undecided|end|",
+            b"polyanna-report 1|class constant none|class semilattice none|class set-function none|class majority none|class nu4 0 0 0 0 0 0 0 0 0 0 0 0 0 1 0 0 0 0 0 0 0 0 0 0 0 0 2 0 0 0 0 1 0 0 0 0 0 1 0 1 1 1 0 1 0 0 0 0 0 1 0 0 0 2 0 0 2 0 0 0 2 0 2 0 0 0 0 1 0 0 0 2 2 0 2 0 0 2 2 2 2|class affine none|class maltsev none|instance a yes nu4 0 2|instance b no nu4 1|c 1 0 0|end|",
         ),
     ];
     for (input, report) in cases {
