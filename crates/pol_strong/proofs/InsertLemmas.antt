@@ -44,7 +44,6 @@ with_pair-All P p (q ∷ rest) here all = by (cases_lt p.variable q.variable) (w
     by (inl less) rest_all = subst (All P) (sym (with_pair-first p q rest less)) (All-cons P p (q ∷ rest) here all)
     by (inr more) rest_all = subst (All P) (sym (with_pair-later p q rest more)) (All-cons P q (with_pair p rest) (All-head P q rest all) rest_all)
 
-
 with_pair-ascending : (p : Pair) (pairs : List Pair) → AllPairs (λ p q. p.variable < q.variable) pairs → All (λ q. q.variable ≢ p.variable) pairs → AllPairs (λ p q. p.variable < q.variable) (with_pair p pairs)
 with_pair-ascending p [] ascending apart = AllPairs-cons (λ (p q : Pair). p.variable < q.variable) p [] (All-nil (λ (q : Pair). p.variable < q.variable)) ascending
 with_pair-ascending p (q ∷ rest) ascending apart = by (cases_lt p.variable q.variable) (with_pair-ascending p rest tail (All-tail (λ (q : Pair). q.variable ≢ p.variable) q rest apart))

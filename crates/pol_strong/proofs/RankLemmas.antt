@@ -101,7 +101,7 @@ not_shorter n d ps qs some other same less = by (length qs - length ps) (omega a
         let padded : List ℕ = zeros ++ map (code_of d) ps in
         let longs : length padded ≡ length (map (code_of d) qs) = omega (arith, length-append zeros (map (code_of d) ps), length-replicate {A = ℕ} (suc k) 0, length-map ps (code_of d), length-map qs (code_of d), long) in
         let lists : padded ≡ map (code_of d) qs = same_from_cell_of (n * d + 1) padded (map (code_of d) qs) longs
-            (All-append (λ c. c < n * d + 1) zeros (map (code_of d) ps) (All-replicate (λ c. c < n * d + 1) (suc k) 0 (omega arith)) (codes_below n d ps some)) (codes_below n d qs other) (cell_of-zeros (n * d + 1) (suc k) (map (code_of d) ps) ∙ same) in
+        (All-append (λ c. c < n * d + 1) zeros (map (code_of d) ps) (All-replicate (λ c. c < n * d + 1) (suc k) 0 (omega arith)) (codes_below n d ps some)) (codes_below n d qs other) (cell_of-zeros (n * d + 1) (suc k) (map (code_of d) ps) ∙ same) in
         first qs lists (omega arith)
       where
         first : (qs : List Pair) → replicate (suc k) 0 ++ map (code_of d) ps ≡ map (code_of d) qs → 0 < length qs → ⊥

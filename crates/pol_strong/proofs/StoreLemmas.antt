@@ -93,15 +93,17 @@ store_more n d most base index filter new_filter log s is small new long clears 
     entries : (j : ℕ) → j < length index → get_or (set index k (length log + 1)) j 0 ≢ 0 → (j ≡ k) ⊎ (j ≡ k → ⊥)
         → (get_or (set index k (length log + 1)) j 0 ≤ length (log ++ s ∷ [])) × (rank_of n d (nogood_at (log ++ s ∷ []) (get_or (set index k (length log + 1)) j 0 - 1)) ≡ j)
     entries j inside some (inl same) =
-        let value : get_or (set index k (length log + 1)) j 0 ≡ length log + 1 = ap (λ i. get_or (set index k (length log + 1)) i 0) same ∙ get_or-set_same index k (length log + 1) 0 place in
-        (omega (arith, value, length_push log s),
-        ap (λ e. rank_of n d (nogood_at (log ++ s ∷ []) e)) (ap (λ e. e - 1) value ∙ omega arith) ∙ (ap (rank_of n d) (nogood_at-push log s) ∙ sym same))
+        let value : get_or (set index k (length log + 1)) j 0 ≡ length log + 1 = ap (λ i. get_or (set index k (length log + 1)) i 0) same ∙ get_or-set_same index k (length log + 1) 0 place in (
+          omega (arith, value, length_push log s),
+          ap (λ e. rank_of n d (nogood_at (log ++ s ∷ []) e)) (ap (λ e. e - 1) value ∙ omega arith) ∙ (ap (rank_of n d) (nogood_at-push log s) ∙ sym same),
+        )
     entries j inside some (inr other) =
         let value : get_or (set index k (length log + 1)) j 0 ≡ get_or index j 0 = get_or-set_other index k j (length log + 1) 0 other in
         let old = is.index_is.entries j inside (λ none. some (value ∙ none)) in
-        let positive : 0 < get_or index j 0 = above (get_or index j 0) (λ none. some (value ∙ none)) in
-        (omega (arith, value, old.0, length_push log s),
-        ap (λ e. rank_of n d (nogood_at (log ++ s ∷ []) (e - 1))) value ∙ (ap (rank_of n d) (nogood_at-append log (s ∷ []) (get_or index j 0 - 1) (omega (arith, old.0))) ∙ old.1))
+        let positive : 0 < get_or index j 0 = above (get_or index j 0) (λ none. some (value ∙ none)) in (
+          omega (arith, value, old.0, length_push log s),
+          ap (λ e. rank_of n d (nogood_at (log ++ s ∷ []) (e - 1))) value ∙ (ap (rank_of n d) (nogood_at-append log (s ∷ []) (get_or index j 0 - 1) (omega (arith, old.0))) ∙ old.1),
+        )
       where
         above : (e : ℕ) → e ≢ 0 → 0 < e
         above zero some = absurd (some refl)
@@ -118,6 +120,7 @@ store_found n d most base index filter log nogood rank number is small same read
     let value : get_or index (rank_of n d nogood) 0 ≡ number = get_or_default index (rank_of n d nogood) 0 number inside ∙ (ap (λ k. get_or index k number) (sym same) ∙ sym read) in
     subst (λ (e : ℕ). (e - 1 < length log) × (nogood_at log (e - 1) ≡ nogood)) value
     (index_found n d log index nogood is.index_is (λ t e within. (is.small t e within).is_nogood) small.is_nogood inside (λ none. some (sym value ∙ none)))
+
 pub store_free : (n d most base : ℕ) (index filter : List ℕ) (log : List StepView) (nogood : List Pair) (rank number : ℕ) → IsStore n d most base index filter log → IsSmall n d most nogood → rank ≡ rank_of n d nogood → number ≡ get_or index rank number → number ≡ 0 → All (λ s. s.nogood ≢ nogood) log
 store_free n d most base index filter log nogood rank number is small same read none =
     let inside : rank_of n d nogood < length index = store_place n d most base index filter log nogood is small in

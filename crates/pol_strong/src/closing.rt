@@ -17,7 +17,13 @@ use pol_relation::{Instance, Language};
 use std::alloc::Global;
 
 /// One reference for each value of the variable, or none where a value is open.
-pub(crate) fn references(alloc: Global, store: &Store, front: &Nogood, v: u32, d: u8) -> Result<Option<Numbers>, NoMemory>
+pub(crate) fn references(
+    alloc: Global,
+    store: &Store,
+    front: &Nogood,
+    v: u32,
+    d: u8,
+) -> Result<Option<Numbers>, NoMemory>
     requires nogood { IsNogood store.now.variables store.now.domain front.now }
     requires few { length front.now ≤ store.now.most }
     requires variable { v < store.now.variables }

@@ -149,7 +149,17 @@ fn cover(
     while x < n {
         for a in 0..d {
             if let Some(next) = next_rows(alloc, lang, inst, c, store, front, rows, x, a, most)? {
-                cover(alloc, lang, inst, c, store, &joined(front, x, a), next.as_slice(), x + 1, most - 1)?;
+                cover(
+                    alloc,
+                    lang,
+                    inst,
+                    c,
+                    store,
+                    &joined(front, x, a),
+                    next.as_slice(),
+                    x + 1,
+                    most - 1,
+                )?;
             }
         }
         x = next_variable(scope, x + 1, n);
@@ -184,7 +194,17 @@ fn cover_constraint(
         store.put(Step::ByConstraint { c, nogood, refs })?;
         return Ok(true);
     }
-    cover(alloc, lang, inst, c, store, &Nogood::new(), rows.as_slice(), 0, most)?;
+    cover(
+        alloc,
+        lang,
+        inst,
+        c,
+        store,
+        &Nogood::new(),
+        rows.as_slice(),
+        0,
+        most,
+    )?;
     Ok(false)
 }
 

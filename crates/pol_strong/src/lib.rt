@@ -1,4 +1,4 @@
-//! Instances over a language with a near unanimity operation, solved by strong consistency with a log
+//! Instances over a language with a near-unanimity operation, solved by strong consistency with a log
 //! of its deletions.
 #![tactic(auto)]
 
@@ -14,3 +14,6 @@ mod sweeping;
 mod values;
 
 pub use solving::solve_nu;
+
+#[cfg(test)]
+mod tests;

@@ -55,7 +55,11 @@ fn reads_one_value(scope: &[u32], row: &[u8]) -> bool
 }
 
 /// The numbers of the rows that read one value for each variable of the scope.
-pub(crate) fn agreeing_rows(alloc: Global, relation: &Relation, scope: &[u32]) -> Result<Numbers, NoMemory>
+pub(crate) fn agreeing_rows(
+    alloc: Global,
+    relation: &Relation,
+    scope: &[u32],
+) -> Result<Numbers, NoMemory>
     requires long { length scope.now ≡ relation.now.arity }
     ensures cases { IfOk result (λ numbers. AreCases relation.now.rows scope.now [] numbers) }
 {

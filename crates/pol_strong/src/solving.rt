@@ -4,7 +4,6 @@ ghost use Rattle.pol_optable.specs.Operations.{IsPolymorphism};
 ghost use Rattle.pol_optable.specs.Identities.{IsNearUnanimity};
 ghost use Rattle.pol_nogood.specs.Answers.{YesSolves, NoOnlyWithoutSolution, NoHasCertificate};
 
-use crate::closing::delete_empty;
 use crate::covering::cover_all;
 use crate::store::Store;
 use crate::sweeping::delete_all;
@@ -15,7 +14,7 @@ use pol_optable::OpTable;
 use pol_relation::{Instance, Language};
 use std::alloc::Global;
 
-/// Answers an instance over a language with a near unanimity operation of three or four arguments: a
+/// Answers an instance over a language with a near-unanimity operation of three or four arguments: a
 /// solution, or a log which shows that there is none, of nogoods of at most two or three pairs. By strong
 /// consistency (Jeavons, Cohen and Cooper 1998): nogoods are deleted until each that is left has a case of
 /// each constraint and a value of each further variable; what is left then holds a solution, which is
@@ -44,8 +43,7 @@ pub fn solve_nu<const K: usize>(
     if cover_all(alloc, lang, inst, &mut store)? {
         return Ok(LogAnswer::No(store.log()));
     }
-    delete_all(alloc, lang, inst, &mut store)?;
-    if delete_empty(alloc, lang, inst, &mut store)? {
+    if delete_all(alloc, lang, inst, &mut store)? {
         return Ok(LogAnswer::No(store.log()));
     }
     Ok(LogAnswer::Yes(assignment(alloc, lang, inst, store.steps())?))

@@ -1,11 +1,13 @@
-ghost use Rattle.std.specs.Prelude.{◌≡◌, ◌≢◌, ◌+◌, ◌<◌, ◌≤◌, [], ◌++◌, length, All, OnOk, IfSome, IfNone};
+ghost use Rattle.std.specs.Prelude.{◌≡◌, ◌≢◌, ℕ, ◌+◌, ◌<◌, ◌≤◌, [], ◌++◌, length, All, OnOk, IfOk, IfSome, IfNone};
+ghost use Rattle.std.specs.Bool.{OnTrue, OnFalse};
 ghost use Rattle.pol_nogood.specs.Nogoods.{IsNogood};
 ghost use Rattle.pol_nogood.specs.Logs.{value_case};
 ghost use Rattle.pol_strong.specs.Contradictions.{IsContradicted};
 ghost use Rattle.pol_strong.specs.Sweeps.{AreBeside, IsDeleting, Deletes, AllOpenFrom, IsSwept};
-ghost use Rattle.pol_strong.specs.Finished.{AllOpen};
+ghost use Rattle.pol_strong.specs.Finished.{AllOpen, HasValue};
+ghost use Rattle.pol_nogood.specs.Answers.{IsCertificate};
 
-use crate::closing::delete_by_variable;
+use crate::closing::{delete_by_variable, delete_empty};
 use crate::nogoods::{joined, one_pair, two_pairs};
 use crate::parts::reference;
 use crate::store::Store;
@@ -85,7 +87,16 @@ pub(crate) fn sweep(
         for x in low..inst.variables() {
             for a in 0..d {
                 if let Some(next) = next_masks(store, front, masks, x, a) {
-                    sweep(alloc, lang, inst, store, &joined(front, x, a), &next, x + 1, most - 1)?;
+                    sweep(
+                        alloc,
+                        lang,
+                        inst,
+                        store,
+                        &joined(front, x, a),
+                        &next,
+                        x + 1,
+                        most - 1,
+                    )?;
                 }
             }
         }
@@ -121,22 +132,29 @@ fn sweep_all(
     sweep(alloc, lang, inst, store, &Nogood::new(), &masks, 0, most)
 }
 
-/// Sweeps until nothing more is deleted.
+/// Sweeps until nothing more is deleted, or each value of some variable is deleted alone. Whether that is
+/// so; the log then ends with the empty nogood.
 pub(crate) fn delete_all(
     alloc: Global,
     lang: &Language,
     inst: &Instance,
     store: &mut Store,
-) -> Result<(), NoMemory>
+) -> Result<bool, NoMemory>
     requires few { length inst.now.variables ≤ 40 }
     requires deleting { IsDeleting lang.now inst.now store.old }
-    ensures swept { OnOk result (IsSwept lang.now inst.now store.old store.new) }
+    ensures broken { IfOk result (λ broken. OnTrue broken (IsCertificate store.old.most lang.now inst.now store.new.log)) }
+    ensures swept { IfOk result (λ broken. OnFalse broken (IsSwept lang.now inst.now store.old store.new)) }
+    ensures left { IfOk result (λ broken. OnFalse broken
+        ((v : ℕ) → v < length inst.now.variables → HasValue lang.now.domain store.new.log v)) }
 {
     loop {
+        if delete_empty(alloc, lang, inst, store)? {
+            return Ok(true);
+        }
         let before = store.steps().len();
         sweep_all(alloc, lang, inst, store)?;
         if store.steps().len() == before {
-            return Ok(());
+            return Ok(false);
         }
     }
 }

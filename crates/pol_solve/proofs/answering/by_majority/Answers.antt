@@ -10,7 +10,7 @@ pub solve_nu-requires : goal.solve_nu-requires
 solve_nu-requires c =
     let table = subst (λ found. HoldsNoOther Majority c.args.lang.now (Sought (option_map (λ f. f.cells) found))) c.in-Some.is (c.requires.tables Majority) in
     let serving = served IsNearUnanimity 2 c.args.lang.now c.in-Some.op c.domain-domain.ensures.language c.cells-cells.ensures.table table in
-    (omega arith, (omega arith, (omega arith, (c.requires.fits, (c.requires.few_variables, (serving.same_domain, (serving.satisfies, serving.preserves)))))))
+    (omega arith, (omega arith, (omega arith, (serving.satisfies, (serving.preserves, (serving.same_domain, (c.requires.fits, c.requires.few_variables)))))))
 
 pub returns-in_ok-solve_nu-in-Some : goal.returns-in_ok-solve_nu-in-Some
 returns-in_ok-solve_nu-in-Some c =

@@ -9,7 +9,7 @@ pub solve_nu-requires : goal.solve_nu-requires
 solve_nu-requires c =
     let table = subst (λ found. HoldsNoOther Nu4 c.args.lang.now (nu4_line found)) c.in-Found.is (c.requires.tables Nu4) in
     let serving = served IsNearUnanimity 3 c.args.lang.now c.in-Found.op c.domain-domain.ensures.language c.cells-cells.ensures.table table in
-    (omega arith, (omega arith, (omega arith, (c.requires.fits, (c.requires.few_variables, (serving.same_domain, (serving.satisfies, serving.preserves)))))))
+    (omega arith, (omega arith, (omega arith, (serving.satisfies, (serving.preserves, (serving.same_domain, (c.requires.fits, c.requires.few_variables)))))))
 
 pub returns-in_ok-solve_nu-in-Found : goal.returns-in_ok-solve_nu-in-Found
 returns-in_ok-solve_nu-in-Found c =

@@ -54,14 +54,37 @@ cover-requires t c =
     let less_x : x < length inst.variables = omega (arith, c.loop-x-test.true, c.variables-n.ensures.variables) in
     let less_a : a < lang.domain = omega (arith, c.loop-a-test.true, c.size-d.ensures.size, c.domain.ensures.domain) in
     let from : c.args.low ≤ x = c.loop-x.invariant.from less_x in
-    let most : c.next_rows.new.store.most ≡ c.args.store.now.most = ap (λ (s : StoreView). s.most) same ∙ c.loop-a.invariant.most in
-    (omega (arith, c.decreases, on.more),
-    (c.requires.few, (c.requires.fits, (subst (IsDeleting lang inst) (sym same) c.loop-a.invariant.deleting, (c.requires.known,
-    (subst (IsNogood (length inst.variables) lang.domain) (sym joined) (joined_nogood (length inst.variables) lang.domain front x a c.args.low c.requires.front less_x less_a from c.requires.before),
-    (subst (λ (ps : List Pair). All (λ q. q.variable < x + 1) ps) (sym joined) (joined_before front x a c.args.low from c.requires.before),
-    (omega (arith, on.more), (omega (arith, long, most, on.more, c.requires.size),
-    (subst (λ (ps : List Pair). AreCases (rows_of lang one.relation) one.scope ps c.as_slice.result.now) (sym joined) (subst (AreCases (rows_of lang one.relation) one.scope (front ++ value_case x a)) (sym c.as_slice.ensures.items) on.cases),
-    subst (HasCase lang one) (sym joined) on.case))))))))))
+    let most : c.next_rows.new.store.most ≡ c.args.store.now.most = ap (λ (s : StoreView). s.most) same ∙ c.loop-a.invariant.most in (
+      omega (arith, c.decreases, on.more),
+      (
+        c.requires.few,
+        (
+          c.requires.fits,
+          (
+            subst (IsDeleting lang inst) (sym same) c.loop-a.invariant.deleting,
+            (
+              c.requires.known,
+              (
+                subst (IsNogood (length inst.variables) lang.domain) (sym joined) (joined_nogood (length inst.variables) lang.domain front x a c.args.low c.requires.front less_x less_a from c.requires.before),
+                (
+                  subst (λ (ps : List Pair). All (λ q. q.variable < x + 1) ps) (sym joined) (joined_before front x a c.args.low from c.requires.before),
+                  (
+                    omega (arith, on.more),
+                    (
+                      omega (arith, long, most, on.more, c.requires.size),
+                      (
+                        subst (λ (ps : List Pair). AreCases (rows_of lang one.relation) one.scope ps c.as_slice.result.now) (sym joined) (subst (AreCases (rows_of lang one.relation) one.scope (front ++ value_case x a)) (sym c.as_slice.ensures.items) on.cases),
+                        subst (HasCase lang one) (sym joined) on.case,
+                      ),
+                    ),
+                  ),
+                ),
+              ),
+            ),
+          ),
+        ),
+      ),
+    )
 
 pub loop-a-preserved : goal.loop-a-preserved
 loop-a-preserved t c =

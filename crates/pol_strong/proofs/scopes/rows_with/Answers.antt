@@ -16,15 +16,15 @@ loop-i-preserved c =
     let row : c.row.result.now ≡ row_at rows (get_or numbers i 0) = c.row.ensures.row in
     elim c.if-row-place.branch [
       | then-row-place+in_ok-push w ↦ rw (w.some-is, w.in_ok-push.ensures.ok) (record {
-          among = All-push (Contains numbers) some (get_or numbers i 0) c.loop-i.invariant.among (Contains-get_or numbers i 0 c.loop-i-test.true);
-          read = All-push read some (get_or numbers i 0) c.loop-i.invariant.read (subst (λ (xs : List ℕ). get_or xs place 0 ≡ c.args.a) row w.if-row-place.true);
-          all = one_taken read numbers some i c.loop-i-test.true c.loop-i.invariant.all;
-        })
+        among = All-push (Contains numbers) some (get_or numbers i 0) c.loop-i.invariant.among (Contains-get_or numbers i 0 c.loop-i-test.true);
+        read = All-push read some (get_or numbers i 0) c.loop-i.invariant.read (subst (λ (xs : List ℕ). get_or xs place 0 ≡ c.args.a) row w.if-row-place.true);
+        all = one_taken read numbers some i c.loop-i-test.true c.loop-i.invariant.all;
+      })
       | else-row-place w ↦ rw w.some-is (record {
-          among = c.loop-i.invariant.among;
-          read = c.loop-i.invariant.read;
-          all = none_taken read numbers some i c.loop-i-test.true c.loop-i.invariant.all (λ here. w.if-row-place.false (subst (λ (xs : List ℕ). get_or xs place 0 ≡ c.args.a) (sym row) here));
-        })
+        among = c.loop-i.invariant.among;
+        read = c.loop-i.invariant.read;
+        all = none_taken read numbers some i c.loop-i-test.true c.loop-i.invariant.all (λ here. w.if-row-place.false (subst (λ (xs : List ℕ). get_or xs place 0 ≡ c.args.a) (sym row) here));
+      })
     ]
 
 pub returns : goal.returns

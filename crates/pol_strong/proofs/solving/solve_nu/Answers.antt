@@ -7,6 +7,7 @@ use Rattle.pol_nogood.specs.Answers.{IsCertificate}
 use Rattle.pol_nogood.proofs.LogSound.{valid_log_sound}
 use Rattle.pol_strong.specs.Finished.{IsFinished, HasScopeCases, HasValue}
 use Rattle.pol_strong.specs.Stores.{StoreView}
+use Rattle.pol_strong.specs.Sweeps.{IsSwept}
 use Rattle.pol_strong.specs.Covers.{Adds}
 use Rattle.pol_strong.proofs.EndLemmas.{finished_log}
 use Rattle.pol_strong.proofs.solving.solve_nu.Goals as goal
@@ -21,9 +22,9 @@ returns-then-branch-clause-no_only_without_solution g c =
 pub returns-then-branch-2-clause-no_only_without_solution :
     goal.returns-then-branch-2-clause-no_only_without_solution
 returns-then-branch-2-clause-no_only_without_solution g c =
-    let log : List StepView = c.delete_empty.new.store.log in
-    let most : ℕ = c.delete_all.new.store.most in
-    let certificate : IsCertificate most c.args.lang.now c.args.inst.now log = subst (λ b. OnTrue b (IsCertificate most c.args.lang.now c.args.inst.now log)) c.if-branch-2.true c.in_ok-delete_empty.ensures.deleted in
+    let log : List StepView = c.delete_all.new.store.log in
+    let most : ℕ = c.cover_all.new.store.most in
+    let certificate : IsCertificate most c.args.lang.now c.args.inst.now log = subst (λ b. OnTrue b (IsCertificate most c.args.lang.now c.args.inst.now log)) c.if-branch-2.true c.in_ok-delete_all.ensures.broken in
     valid_log_sound c.args.lang.now c.args.inst.now log certificate.valid
 
 pub assignment-requires-clause-decided : goal.assignment-requires-clause-decided
@@ -33,15 +34,14 @@ assignment-requires-clause-decided g c =
     let first : StoreView = c.in_ok-store.store in
     let covered : StoreView = c.cover_all.new.store in
     let swept : StoreView = c.delete_all.new.store in
-    let last : StoreView = c.delete_empty.new.store in
     let most : ℕ = g.row.K - 1 in
     let table : IsOpTable g.row.K c.args.op.now = c.domain-domain.ensures.table in
     let adds : Adds lang inst (λ log. All (HasScopeCases lang inst first.most log) inst.constraints) first covered =
     subst (λ b. OnFalse b (Adds lang inst (λ log. All (HasScopeCases lang inst first.most log) inst.constraints) first covered)) c.if-branch.false c.in_ok-cover_all.ensures.covered in
     let left : (v : ℕ) → v < length inst.variables → HasValue lang.domain swept.log v =
-    subst (λ b. OnFalse b ((v : ℕ) → v < length inst.variables → HasValue lang.domain swept.log v)) c.if-branch-2.false c.in_ok-delete_empty.ensures.left in
-    let same : last ≡ swept = subst (λ b. OnFalse b (last ≡ swept)) c.if-branch-2.false c.in_ok-delete_empty.ensures.same in
-    let finished : IsFinished lang inst most swept.log = finished_log lang inst most first covered swept adds c.in_ok-delete_all.ensures.swept (ap (λ (s : StoreView). s.most) c.in_ok-store.ensures.empty) left in
+    subst (λ b. OnFalse b ((v : ℕ) → v < length inst.variables → HasValue lang.domain swept.log v)) c.if-branch-2.false c.in_ok-delete_all.ensures.left in
+    let sweeps : IsSwept lang inst covered swept = subst (λ b. OnFalse b (IsSwept lang inst covered swept)) c.if-branch-2.false c.in_ok-delete_all.ensures.swept in
+    let finished : IsFinished lang inst most swept.log = finished_log lang inst most first covered swept adds sweeps (ap (λ (s : StoreView). s.most) c.in_ok-store.ensures.empty) left in
     record {
       most = most;
       operation = c.args.op.now;
@@ -52,5 +52,5 @@ assignment-requires-clause-decided g c =
         near_unanimity = c.requires.near_unanimity;
         preserves = c.requires.polymorphism;
       };
-      finished = subst (IsFinished lang inst most) (sym (c.steps.ensures.log ∙ ap (λ (s : StoreView). s.log) same)) finished;
+      finished = subst (IsFinished lang inst most) (sym c.steps.ensures.log) finished;
     }
