@@ -62,7 +62,7 @@ fn instances_of_set_functions(rt: HostRuntime) -> Result<(), Fail> {
             2,
         ),
         (
-            b"polyanna 1|domain 4|relation pp 3|tuple 0 0 0|tuple 0 2 2|tuple 2 0 2|tuple 2 2 0|relation next 2|tuple 0 0|tuple 1 3|end|",
+            b"polyanna 1|domain 4|relation pp 3|tuple 0 0 0|tuple 0 2 2|tuple 2 0 2|tuple 2 2 0|relation next 2|tuple 1 0|tuple 1 3|end|",
             2,
         ),
     ];
