@@ -142,16 +142,14 @@ impl Store {
         Ok(())
     }
 
-    /// Leaves each variable the values that are not deleted beside the nogood.
-    pub fn narrow(&self, nogood: &Nogood, masks: &mut [u8])
+    /// Of the masks the values that are not deleted beside the nogood.
+    pub fn narrow(&self, nogood: &Nogood, masks: &[u8; 40]) -> [u8; 40]
         requires small { IsSmall self.now.variables self.now.domain (self.now.most - 1) nogood.now }
-        requires long { length masks.old ≡ 40 }
-        ensures long { length masks.new ≡ 40 }
-        ensures less { IsLess self.now.domain masks.old masks.new }
-        ensures cleared { AreCleared self.now.log nogood.now masks.new }
+        ensures less { IsLess self.now.domain masks.now result }
+        ensures cleared { AreCleared self.now.log nogood.now result }
     {
         let rank = rank(self.n, self.d, nogood);
-        meet(masks, &self.filter, rank * ROW);
+        meet(masks, &self.filter, rank * ROW)
     }
 
     /// How many pairs a nogood has at most.

@@ -16,23 +16,23 @@ use pol_nogood::Nogood;
 use pol_relation::{Instance, Language};
 use std::alloc::Global;
 
-/// Leaves the masks beside the front the values that are not deleted beside the front with a further pair.
-fn narrow_by(store: &Store, front: &Nogood, x: u32, a: u8, masks: &mut [u8])
+/// Of the masks beside the front the values that are not deleted beside the front with a further pair.
+fn narrow_by(store: &Store, front: &Nogood, x: u32, a: u8, masks: &[u8; 40]) -> [u8; 40]
     requires some { 2 ≤ store.now.most }
     requires few { length front.now + 1 ≤ store.now.most }
     requires nogood { IsNogood store.now.variables store.now.domain (front.now ++ value_case x a) }
-    requires long { length masks.old ≡ 40 }
-    ensures long { length masks.new ≡ 40 }
-    ensures beside { AreBeside store.now.domain store.now.log front.now masks.old → AreBeside store.now.domain store.now.log (front.now ++ value_case x a) masks.new }
+    ensures beside { AreBeside store.now.domain store.now.log front.now masks.now
+        → AreBeside store.now.domain store.now.log (front.now ++ value_case x a) result }
 {
     let most = store.most();
-    store.narrow(&one_pair(x, a), masks);
+    let mut next = store.narrow(&one_pair(x, a), masks);
     if most > 2 {
         for i in 0..front.len() {
             let (y, b) = front.pair(i);
-            store.narrow(&two_pairs(y, b, x, a), masks);
+            next = store.narrow(&two_pairs(y, b, x, a), &next);
         }
     }
+    next
 }
 
 /// The masks beside the front with a further pair, or none where these contain a deleted nogood.
@@ -54,9 +54,7 @@ fn next_masks(store: &Store, front: &Nogood, masks: &[u8; 40], x: u32, a: u8) ->
             return None;
         }
     }
-    let mut next = *masks;
-    narrow_by(store, front, x, a, &mut next);
-    Some(next)
+    Some(narrow_by(store, front, x, a, masks))
 }
 
 /// Deletes what goes on from the front, by at most `most` pairs of variables from `low` on, wherever
@@ -110,9 +108,7 @@ fn first_masks(store: &Store, d: Domain) -> [u8; 40]
     requires some { 1 ≤ store.now.most }
     ensures beside { AreBeside store.now.domain store.now.log [] result }
 {
-    let mut masks = [full_mask(d); 40];
-    store.narrow(&Nogood::new(), &mut masks);
-    masks
+    store.narrow(&Nogood::new(), &[full_mask(d); 40])
 }
 
 /// Deletes each nogood but the empty one for which a variable has no open value, in one sweep.

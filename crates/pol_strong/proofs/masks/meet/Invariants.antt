@@ -4,8 +4,8 @@ use Rattle.pol_strong.proofs.masks.meet.Given as goal
 
 abbrev pub invariant-loop-v : goal.invariant-loop-v
 invariant-loop-v l = record {
-  long : length l.masks ≡ length l.initial.masks;
-  less : (v a : ℕ) → IsBitSet (get_or l.masks v 0) a → IsBitSet (get_or l.initial.masks v 0) a;
-  below : (d : ℕ) → All (λ m. m < 2 ^ d) l.initial.masks → All (λ m. m < 2 ^ d) l.masks;
-  others : (v a : ℕ) → v < l.v → IsBitSet (get_or l.masks v 0) a → IsBitSet (get_or l.others (l.place + v) 0) a;
+  long : length l.met ≡ 40;
+  less : (v a : ℕ) → IsBitSet (get_or l.met v 0) a → IsBitSet (get_or l.masks v 0) a;
+  below : (d : ℕ) → All (λ m. m < 2 ^ d) l.masks → All (λ m. m < 2 ^ d) l.met;
+  others : (v a : ℕ) → v < l.v → IsBitSet (get_or l.met v 0) a → IsBitSet (get_or l.others (l.place + v) 0) a;
 }

@@ -21,4 +21,4 @@ meet-requires c =
     let i = c.self.inside in
     let small : IsSmall i.n i.d (i.most - 1) c.args.nogood.now = subst (λ (v : StoreView). IsSmall v.variables v.domain (v.most - 1) c.args.nogood.now) (sym c.self.view_is) c.requires.small in
     let inside : c.rank-rank.result * 40 + 40 ≤ length i.filter.items = masks_inside i.n i.d i.most i.base i.index.items i.filter.items i.log c.args.nogood.now c.rank-rank.result c.self.invariant small c.rank-rank.ensures.rank in
-    record { long = omega (arith, inside, c.requires.long, ap (λ (xs : List ℕ). length xs) c.deref.ensures.value) }
+    record { long = omega (arith, inside, ap (λ (xs : List ℕ). length xs) c.deref.ensures.value) }
