@@ -46,7 +46,8 @@ fn next_masks(store: &Store, front: &Nogood, masks: &[u8; 40], x: u32, a: u8) ->
     requires apart { All (λ p. p.variable ≢ x) front.now }
     requires values { store.now.domain ≤ 5 }
     ensures contradicted { IfNone result (IsContradicted store.now.log (front.now ++ value_case x a)) }
-    ensures beside { IfSome result (λ next. AreBeside store.now.domain store.now.log front.now masks.now → AreBeside store.now.domain store.now.log (front.now ++ value_case x a) next) }
+    ensures beside { IfSome result (λ next. AreBeside store.now.domain store.now.log front.now masks.now
+        → AreBeside store.now.domain store.now.log (front.now ++ value_case x a) next) }
 {
     if !has_value(masks[x as usize], a) {
         if let Some(_step) = reference(store, front, x, a) {
@@ -107,7 +108,9 @@ pub(crate) fn sweep(
     requires size { length front.now + most ≡ store.old.most }
     requires nogood { IsNogood (length inst.now.variables) lang.now.domain front.now }
     requires before { All (λ p. p.variable < low) front.now }
-    ensures deletes { OnOk result (Deletes lang.now inst.now (λ log. AreBeside lang.now.domain log front.now masks.now → AllOpenFrom (length inst.now.variables) lang.now.domain front.now low most log) store.old store.new) }
+    ensures deletes { OnOk result (Deletes lang.now inst.now
+        (λ log. AreBeside lang.now.domain log front.now masks.now
+        → AllOpenFrom (length inst.now.variables) lang.now.domain front.now low most log) store.old store.new) }
 {
     let _most = store.most();
     let d = lang.domain().size();
@@ -153,8 +156,8 @@ fn sweep_all(
 ) -> Result<(), NoMemory>
     requires few { length inst.now.variables ≤ 40 }
     requires deleting { IsDeleting lang.now inst.now store.old }
-    ensures deletes { OnOk result
-        (Deletes lang.now inst.now (AllOpen (length inst.now.variables) lang.now.domain store.old.most) store.old store.new) }
+    ensures deletes { OnOk result (Deletes lang.now inst.now
+        (AllOpen (length inst.now.variables) lang.now.domain store.old.most) store.old store.new) }
 {
     let masks = first_masks(store, lang.domain());
     let most = store.most();
