@@ -1,14 +1,14 @@
 -- Deletions one after another, and what a sweep leaves.
-use Rattle.std.proofs.Common.{◌≡◌, ◌≢◌, ℕ, suc, zero, ◌+◌, ◌-◌, ◌<◌, ◌≤◌, ◌⊎◌, inl, inr, List, [], ◌∷◌, ◌++◌, length, get_or, All, refl, sym, ap, ◌∙◌, subst, arith, append-nil, length-append}
+use Rattle.std.proofs.Common.{◌≡◌, ◌≢◌, ℕ, suc, ◌+◌, ◌-◌, ◌<◌, ◌≤◌, ◌⊎◌, inl, inr, List, [], ◌∷◌, ◌++◌, length, get_or, All, refl, sym, ap, ◌∙◌, subst, arith, append-nil, length-append}
 use Rattle.std.specs.Prelude.{⊤, Result, Ok, Err, OnOk}
 use Rattle.std.proofs.lemmas.Bool.{cases_eq, cases_lt}
-use Rattle.std.proofs.lemmas.List.{get_or_default, length_push, append_assoc, get_or-append_right}
-use Rattle.std.proofs.lemmas.List.Elements.{All-head, All-tail, All-push, All-weaker, All-contains, Contains-append_left, Contains-append_right}
+use Rattle.std.proofs.lemmas.List.{length_push, append_assoc, get_or-append_right}
+use Rattle.std.proofs.lemmas.List.Elements.{All-head, All-push, All-contains, Contains-append_right}
 use Rattle.pol_relation.specs.Relations.{LanguageView}
 use Rattle.pol_relation.specs.Instances.{InstanceView}
 use Rattle.pol_nogood.specs.Nogoods.{Pair, IsPair, IsNogood, IsContained}
-use Rattle.pol_nogood.specs.Logs.{Basis, no_step, StepView, value_case, nogood_at, FitsMost, value_cases}
-use Rattle.pol_nogood.specs.ValidLogs.{HasReferences, IsValidStep}
+use Rattle.pol_nogood.specs.Logs.{Basis, StepView, value_case, nogood_at, value_cases}
+use Rattle.pol_nogood.specs.ValidLogs.{HasReferences}
 use Rattle.pol_nogood.proofs.LogMaking.{nogood_at-append, variable_step_of, IsContained-left, IsContained-itself, valid_push, variable_step, FitsMost-push}
 use Rattle.pol_nogood.proofs.Counting.{nogood_count, few_steps, count_more, three_pairs}
 use Rattle.pol_strong.specs.Finished.{IsSmall, RefersByVariable, AllOpen}

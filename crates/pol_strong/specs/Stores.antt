@@ -3,7 +3,7 @@ use Rattle.std.specs.Prelude.{◌≡◌, ◌≢◌, ℕ, ◌+◌, ◌-◌, ◌*�
 use Rattle.std.specs.Prelude.{slice_index, slice_index_or, All, IsBitSet}
 use Rattle.std.specs.List.{remove}
 use Rattle.pol_base.specs.Tuples.{IsDomain}
-use Rattle.pol_nogood.specs.Nogoods.{Pair, IsNogood}
+use Rattle.pol_nogood.specs.Nogoods.{Pair}
 use Rattle.pol_nogood.specs.Logs.{StepView, nogood_at}
 use Rattle.pol_strong.specs.Finished.{IsSmall}
 use Rattle.pol_strong.specs.Ranks.{rank_of}

@@ -5,7 +5,7 @@ use Rattle.std.specs.List.{remove}
 use Rattle.pol_relation.specs.Relations.{LanguageView}
 use Rattle.pol_relation.specs.Instances.{InstanceView}
 use Rattle.pol_nogood.specs.Nogoods.{Pair, IsContained, IsNogood}
-use Rattle.pol_nogood.specs.Logs.{StepView, value_case, nogood_at, FitsMost}
+use Rattle.pol_nogood.specs.Logs.{StepView, value_case, FitsMost}
 use Rattle.pol_nogood.specs.ValidLogs.{AreValid}
 use Rattle.pol_strong.specs.Contradictions.{IsContradicted, AreOpen}
 use Rattle.pol_strong.specs.Finished.{RefersByVariable, AllOpen}

@@ -1,4 +1,4 @@
-use Rattle.std.proofs.Common.{◌≡◌, ◌≤◌, ◌<◌, length, arith, refl}
+use Rattle.std.proofs.Common.{◌≤◌, length, arith, refl}
 use Rattle.pol_strong.specs.Sweeps.{OpenHere}
 use Rattle.pol_strong.proofs.SweepLemmas.{few_deleted, deletes_nothing, deletes_front, contradicted_by}
 use Rattle.pol_strong.proofs.closing.delete_front.Goals as goal

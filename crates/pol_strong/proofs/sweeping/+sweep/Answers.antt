@@ -1,9 +1,7 @@
-use Rattle.std.proofs.Common.{◌≡◌, ◌<◌, ◌≤◌, ◌+◌, ◌-◌, ◌++◌, ◌∙◌, ℕ, List, length, arith, sym, subst, refl}
+use Rattle.std.proofs.Common.{◌+◌, ◌-◌, ◌++◌, ℕ, List, length, arith, sym, subst, refl}
 use Rattle.pol_nogood.specs.Nogoods.{Pair}
 use Rattle.pol_nogood.specs.Logs.{StepView, value_case}
-use Rattle.pol_strong.specs.Contradictions.{IsContradicted}
 use Rattle.pol_strong.specs.Sweeps.{AreBeside, AllOpenFrom, OpenHere, OpenBefore, OpenBelow, OpenWith}
-use Rattle.pol_strong.specs.Stores.{StoreView}
 use Rattle.pol_strong.proofs.SweepLemmas.{deletes_nothing, deletes_weaker, deletes_both, open_below, open_before, open_all}
 use Rattle.pol_strong.proofs.sweeping.+sweep.Goals as goal
 use Rattle.pol_strong.proofs.sweeping.+sweep.Goals.{in-Some+in_ok-sweep, in_default}

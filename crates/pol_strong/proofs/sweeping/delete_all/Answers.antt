@@ -1,4 +1,4 @@
-use Rattle.std.proofs.Common.{◌≡◌, ◌∙◌, length, arith, sym, ap}
+use Rattle.std.proofs.Common.{◌∙◌, length, sym, ap}
 use Rattle.pol_strong.specs.Finished.{AllOpen}
 use Rattle.pol_strong.proofs.SweepLemmas.{fewer_left}
 use Rattle.pol_strong.proofs.sweeping.delete_all.Goals as goal

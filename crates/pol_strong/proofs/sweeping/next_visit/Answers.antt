@@ -1,4 +1,4 @@
-use Rattle.std.proofs.Common.{◌≡◌, ◌≤◌, ◌<◌, ◌++◌, ◌+◌, ◌-◌, length, arith}
+use Rattle.std.proofs.Common.{◌++◌, ◌+◌, ◌-◌, arith}
 use Rattle.pol_nogood.specs.Logs.{value_case}
 use Rattle.pol_strong.proofs.SweepLemmas.{open_full, open_contradicted}
 use Rattle.pol_strong.proofs.sweeping.next_visit.Goals as goal
