@@ -3,7 +3,7 @@ ghost use Rattle.pol_relation.specs.Instances.{Fits};
 ghost use Rattle.pol_optable.specs.Choices.{AreTables};
 
 use crate::harness::lines;
-use pol_base::{ClassName, NoMemory, advance, cells, digit};
+use pol_base::{ClassName, Domain, NoMemory, cells, digit};
 use pol_classify::classify;
 use pol_lang::{File, read_file};
 use pol_nogood::check_log;
@@ -14,100 +14,67 @@ use std::alloc::Global;
 use std::process::Abort;
 use std::test::Fail;
 
-/// A constraint on three variables: the number of its relation, and the number that its scope writes in
-/// base three, the last place first.
-type Candidate = (u32, u32);
+/// No constraint, or one on three variables: the number of its relation, and the number that its scope
+/// writes in base three, the last place first.
+type Candidate = Option<(u32, u32)>;
 
 #[test]
 fn instances_of_constants(rt: HostRuntime) -> Result<(), Fail> {
-    let cases: [(&[u8], usize); 2] = [
-        (
-            b"polyanna 1|domain 2|relation never 1|relation or 2|tuple 0 1|tuple 1 0|tuple 1 1|end|",
-            3,
-        ),
-        (
-            b"polyanna 1|domain 3|relation le 2|tuple 0 0|tuple 0 1|tuple 0 2|tuple 1 1|tuple 1 2|tuple 2 2|relation never 2|end|",
-            2,
-        ),
+    let languages: [&[u8]; 2] = [
+        b"polyanna 1|domain 2|relation never 1|relation or 2|tuple 0 1|tuple 1 0|tuple 1 1|end|",
+        b"polyanna 1|domain 3|relation le 2|tuple 0 0|tuple 0 1|tuple 0 2|tuple 1 1|tuple 1 2|tuple 2 2|relation never 2|end|",
     ];
-    for (language, most) in cases {
-        assert_answers(&rt, rt.alloc(), language, ClassName::Constant, most)?;
+    for language in languages {
+        assert_answers(&rt, rt.alloc(), language, ClassName::Constant)?;
     }
     Ok(())
 }
 
 #[test]
 fn instances_of_semilattice_operations(rt: HostRuntime) -> Result<(), Fail> {
-    let cases: [(&[u8], usize); 2] = [
-        (
-            b"polyanna 1|domain 2|relation h 3|tuple 0 0 0|tuple 0 0 1|tuple 0 1 0|tuple 0 1 1|tuple 1 0 0|tuple 1 0 1|tuple 1 1 1|relation zero 1|tuple 0|relation one 1|tuple 1|end|",
-            2,
-        ),
-        (
-            b"polyanna 1|domain 3|relation lt 2|tuple 0 1|tuple 0 2|tuple 1 2|relation low 1|tuple 0|tuple 1|end|",
-            3,
-        ),
+    let languages: [&[u8]; 2] = [
+        b"polyanna 1|domain 2|relation h 3|tuple 0 0 0|tuple 0 0 1|tuple 0 1 0|tuple 0 1 1|tuple 1 0 0|tuple 1 0 1|tuple 1 1 1|relation zero 1|tuple 0|relation one 1|tuple 1|end|",
+        b"polyanna 1|domain 3|relation lt 2|tuple 0 1|tuple 0 2|tuple 1 2|relation low 1|tuple 0|tuple 1|end|",
     ];
-    for (language, most) in cases {
-        assert_answers(&rt, rt.alloc(), language, ClassName::Semilattice, most)?;
+    for language in languages {
+        assert_answers(&rt, rt.alloc(), language, ClassName::Semilattice)?;
     }
     Ok(())
 }
 
 #[test]
 fn instances_of_set_functions(rt: HostRuntime) -> Result<(), Fail> {
-    let cases: [(&[u8], usize); 2] = [
-        (
-            b"polyanna 1|domain 3|relation pp 3|tuple 0 0 0|tuple 0 2 2|tuple 2 0 2|tuple 2 2 0|relation one 1|tuple 1|end|",
-            2,
-        ),
-        (
-            b"polyanna 1|domain 4|relation pp 3|tuple 0 0 0|tuple 0 2 2|tuple 2 0 2|tuple 2 2 0|relation next 2|tuple 1 0|tuple 1 3|end|",
-            2,
-        ),
+    let languages: [&[u8]; 2] = [
+        b"polyanna 1|domain 3|relation pp 3|tuple 0 0 0|tuple 0 2 2|tuple 2 0 2|tuple 2 2 0|relation one 1|tuple 1|end|",
+        b"polyanna 1|domain 4|relation pp 3|tuple 0 0 0|tuple 0 2 2|tuple 2 0 2|tuple 2 2 0|relation next 2|tuple 1 0|tuple 1 3|end|",
     ];
-    for (language, most) in cases {
-        assert_answers(&rt, rt.alloc(), language, ClassName::SetFunction, most)?;
+    for language in languages {
+        assert_answers(&rt, rt.alloc(), language, ClassName::SetFunction)?;
     }
     Ok(())
 }
 
 #[test]
 fn instances_of_majority_operations(rt: HostRuntime) -> Result<(), Fail> {
-    let cases: [(&[u8], usize); 3] = [
-        (
-            b"polyanna 1|domain 2|relation neq 2|tuple 0 1|tuple 1 0|relation zero 1|tuple 0|end|",
-            3,
-        ),
-        (
-            b"polyanna 1|domain 2|relation or 2|tuple 0 1|tuple 1 0|tuple 1 1|relation nand 2|tuple 0 0|tuple 0 1|tuple 1 0|end|",
-            3,
-        ),
-        (
-            b"polyanna 1|domain 3|relation turn 2|tuple 0 1|tuple 1 2|tuple 2 0|relation some 1|tuple 0|tuple 1|end|",
-            3,
-        ),
+    let languages: [&[u8]; 3] = [
+        b"polyanna 1|domain 2|relation neq 2|tuple 0 1|tuple 1 0|relation zero 1|tuple 0|end|",
+        b"polyanna 1|domain 2|relation or 2|tuple 0 1|tuple 1 0|tuple 1 1|relation nand 2|tuple 0 0|tuple 0 1|tuple 1 0|end|",
+        b"polyanna 1|domain 3|relation turn 2|tuple 0 1|tuple 1 2|tuple 2 0|relation some 1|tuple 0|tuple 1|end|",
     ];
-    for (language, most) in cases {
-        assert_answers(&rt, rt.alloc(), language, ClassName::Majority, most)?;
+    for language in languages {
+        assert_answers(&rt, rt.alloc(), language, ClassName::Majority)?;
     }
     Ok(())
 }
 
 #[test]
 fn instances_of_operations_of_arity_four(rt: HostRuntime) -> Result<(), Fail> {
-    let cases: [(&[u8], usize); 2] = [
-        (
-            b"polyanna 1|domain 3|relation qq 3|tuple 0 0 0|tuple 0 0 1|tuple 0 1 0|tuple 0 1 1|tuple 1 0 0|tuple 1 0 1|tuple 1 1 0|relation nn 2|tuple 0 2|tuple 2 0|end|",
-            2,
-        ),
-        (
-            b"polyanna 1|domain 4|relation qq 3|tuple 0 0 0|tuple 0 0 1|tuple 0 1 0|tuple 0 1 1|tuple 1 0 0|tuple 1 0 1|tuple 1 1 0|relation nn 2|tuple 0 3|tuple 3 0|relation some 1|tuple 1|tuple 3|end|",
-            2,
-        ),
+    let languages: [&[u8]; 2] = [
+        b"polyanna 1|domain 3|relation qq 3|tuple 0 0 0|tuple 0 0 1|tuple 0 1 0|tuple 0 1 1|tuple 1 0 0|tuple 1 0 1|tuple 1 1 0|relation nn 2|tuple 0 2|tuple 2 0|end|",
+        b"polyanna 1|domain 4|relation qq 3|tuple 0 0 0|tuple 0 0 1|tuple 0 1 0|tuple 0 1 1|tuple 1 0 0|tuple 1 0 1|tuple 1 1 0|relation nn 2|tuple 0 3|tuple 3 0|relation some 1|tuple 1|tuple 3|end|",
     ];
-    for (language, most) in cases {
-        assert_answers(&rt, rt.alloc(), language, ClassName::Nu4, most)?;
+    for language in languages {
+        assert_answers(&rt, rt.alloc(), language, ClassName::Nu4)?;
     }
     Ok(())
 }
@@ -120,60 +87,61 @@ fn read(rt: &impl Abort, alloc: Global, text: &[u8]) -> Result<File, Fail> {
     Ok(file)
 }
 
-/// Each instance of three variables with at most so many constraints of the language is answered, by the
+/// Each instance of three variables with at most three constraints of the language is answered by the
 /// class: with a solution, or with a log where the list of all assignments has none.
 fn assert_answers(
     rt: &impl Abort,
     alloc: Global,
     language: &[u8],
     class: ClassName,
-    most: usize,
 ) -> Result<(), Fail> {
     let file = read(rt, alloc, language)?;
     let classes = classify(alloc, file.lang())?;
     assert_eq!(rt; classes.first(), Some(class));
-    let candidates = candidates(alloc, file.lang())?;
-    let count = candidates.len() as u32 + 1;
-    let mut picks = [0u32; 3];
-    assert!(rt; most <= 3);
-    loop {
-        let inst = instance(rt, alloc, file.lang(), candidates.as_slice(), &picks[..most])?;
-        assert!(rt; inst.fits(file.lang()) && inst.variables() == 3);
-        assert!(rt; is_answered(alloc, file.lang(), &inst, &classes)?, "at {picks:?}");
-        if !advance(&mut picks[..most], count) {
-            return Ok(());
+    let all = candidates(alloc, file.lang())?;
+    for i in 0..all.len() {
+        for j in i..all.len() {
+            for k in j..all.len() {
+                let inst = instance(rt, alloc, file.lang(), &[all[i], all[j], all[k]])?;
+                assert!(rt; inst.fits(file.lang()) && inst.variables() == 3);
+                let answered = is_answered(alloc, file.lang(), &inst, &classes)?;
+                assert!(rt; answered, "at {i} {j} {k}");
+            }
         }
     }
+    Ok(())
 }
 
-/// All constraints on three variables.
+/// No constraint, and all constraints on three variables.
 fn candidates(alloc: Global, lang: &Language) -> Result<Vec<Candidate>, Fail> {
+    let three = Domain::new(3).ok_or("three variables")?;
     let mut all = Vec::new(alloc);
+    all.push(None)?;
     for relation in 0..lang.len() {
-        for scope in 0..3u32.pow(lang.relation(relation).arity()) {
-            all.push((relation, scope))?;
+        let scopes = cells(three, lang.relation(relation).arity()).ok_or("scopes")?;
+        for scope in 0..scopes {
+            all.push(Some((relation, scope)))?;
         }
     }
     Ok(all)
 }
 
-/// The three variables with the constraints of these numbers. A number behind all is of none.
+/// The three variables with these constraints.
 fn instance(
     rt: &impl Abort,
     alloc: Global,
     lang: &Language,
-    candidates: &[Candidate],
-    picks: &[u32],
+    constraints: &[Candidate],
 ) -> Result<Instance, Fail> {
     let mut inst = Instance::new(alloc, b"i")?;
     for name in [b"x", b"y", b"z"] {
         assert!(rt; inst.variables() < 3);
         inst.add_variable(name)?;
     }
-    for pick in picks {
-        if let Some((relation, scope)) = candidates.get(*pick as usize) {
-            assert!(rt; *relation < lang.len());
-            add_constraint(rt, &mut inst, *relation, lang.relation(*relation).arity(), *scope)?;
+    for constraint in constraints {
+        if let Some((relation, scope)) = *constraint {
+            assert!(rt; relation < lang.len());
+            add_constraint(rt, &mut inst, relation, lang.relation(relation).arity(), scope)?;
         }
     }
     Ok(inst)

@@ -86,7 +86,7 @@ fn reports_of_further_classes(rt: HostRuntime) -> Result<(), Fail> {
         ),
         (
             b"polyanna 1|domain 3|relation qq 3|tuple 0 0 0|tuple 0 0 1|tuple 0 1 0|tuple 0 1 1|tuple 1 0 0|tuple 1 0 1|tuple 1 1 0|relation nn 2|tuple 0 2|tuple 2 0|instance a x y|constraint qq x x x|constraint nn x y|instance b x|constraint qq x x x|constraint nn x x|end|",
-            b"polyanna-report 1|class constant none|class semilattice none|class set-function none|class majority none|class nu4 0 0 0 0 0 0 0 0 0 0 0 0 0 1 0 0 0 0 0 0 0 0 0 0 0 0 2 0 0 0 0 1 0 0 0 0 0 1 0 1 1 1 0 1 0 0 0 0 0 1 0 0 0 2 0 0 2 0 0 0 2 0 2 0 0 0 0 1 0 0 0 2 2 0 2 0 0 2 2 2 2|class affine none|class maltsev none|instance a yes nu4 0 2|instance b no nu4 1|c 1 0 0|end|",
+            b"polyanna-report 1|class constant none|class semilattice none|class set-function none|class majority none|class nu4 0 0 0 0 0 0 0 0 0 0 0 0 0 1 0 0 0 0 0 0 0 0 0 0 0 0 2 0 0 0 0 1 0 0 0 0 0 1 0 1 1 1 0 1 0 0 0 0 0 1 0 0 0 2 0 0 2 0 0 0 2 0 2 0 0 0 0 1 0 0 0 2 2 0 2 0 0 2 2 2 2|class affine none|class maltsev none|instance a yes nu4 0 2|instance b no nu4 4|c 0 1 0 1 0|c 0 1 0 2 0|c 1 1 0 0 0|v 0 0 3 2 0 1|end|",
         ),
     ];
     for (input, report) in cases {
@@ -133,6 +133,6 @@ fn an_empty_relation_behind_255_constraints(rt: HostRuntime) -> Result<(), Fail>
         &rt,
         alloc,
         input.as_slice(),
-        b"polyanna-report 1|class constant none|class semilattice none|class set-function none|class majority 0 0 0 1 0 1 1 1|class nu4 0 0 0 0 0 0 0 1 0 1 1 1 1 1 1 1|class affine 0 1 1 0 1 0 0 1|class maltsev 0 1 0 0 1 1 0 1|instance z no majority 1|c 255 0 0|end|",
+        b"polyanna-report 1|class constant none|class semilattice none|class set-function none|class majority 0 0 0 1 0 1 1 1|class nu4 0 0 0 0 0 0 0 1 0 1 1 1 1 1 1 1|class affine 0 1 1 0 1 0 0 1|class maltsev 0 1 0 0 1 1 0 1|instance z no majority 3|c 255 1 0 0 0|c 255 1 0 1 0|v 0 0 2 0 1|end|",
     )
 }
