@@ -1,0 +1,12 @@
+//! Equations modulo 2, 3 and 5, their elimination, combinations, and the checker of combinations.
+#![tactic(auto)]
+
+mod arithmetic;
+mod checking;
+mod combination;
+mod equation;
+mod sums;
+
+pub use checking::{CombFault, check_combination};
+pub use combination::{Combination, Part};
+pub use equation::Equation;
