@@ -1,6 +1,11 @@
 pub mod Modular
 pub mod DotLemmas
 pub mod ClashRefutes
+pub mod RowLemmas
+pub mod Echelon
+pub mod Spreading
+pub mod BasisLemmas
+pub mod Solution
 pub mod SumLemmas
 pub mod FirstFailing
 pub mod CombinationSound

@@ -1,4 +1,5 @@
 ghost use Rattle.std.specs.Prelude.{◌≡◌, ◌+◌, ◌*◌, ◌%◌, ◌<◌, ◌≤◌};
+ghost use Rattle.pol_modp.specs.Equations.{IsSmallPrime};
 
 /// `a + k * b` modulo `p`.
 pub fn plus_times(p: u8, a: u8, k: u8, b: u8) -> u8
@@ -7,4 +8,21 @@ pub fn plus_times(p: u8, a: u8, k: u8, b: u8) -> u8
     ensures below { result < p }
 {
     ((u32::from(a) + u32::from(k) * u32::from(b)) % u32::from(p)) as u8
+}
+
+/// The number that gives 1 with `a` modulo `p`.
+pub fn inverse(p: u8, a: u8) -> u8
+    requires prime { IsSmallPrime p }
+    requires some { 1 ≤ a }
+    requires below { a < p }
+    ensures inverse { (result * a) % p ≡ 1 }
+    ensures below { result < p }
+{
+    match (p, a) {
+        (3, 2) => 2,
+        (5, 2) => 3,
+        (5, 3) => 2,
+        (5, 4) => 4,
+        _ => 1,
+    }
 }

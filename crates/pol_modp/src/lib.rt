@@ -4,9 +4,13 @@
 mod arithmetic;
 mod checking;
 mod combination;
+mod elimination;
 mod equation;
+mod pivots;
+mod row_steps;
 mod sums;
 
 pub use checking::{CombFault, check_combination};
 pub use combination::{Combination, Part};
+pub use elimination::{Elim, eliminate};
 pub use equation::Equation;
