@@ -1,13 +1,21 @@
 ghost use Rattle.std.specs.Prelude.{◌≡◌, ◌+◌, ◌*◌, ◌%◌, ◌<◌, ◌≤◌};
 ghost use Rattle.pol_modp.specs.Equations.{IsSmallPrime};
 
-/// `a + k * b` modulo `p`.
+/// `a + k * b` modulo `p`. The moduli of eliminations stand as numbers, so that the compiler need not
+/// divide.
 pub fn plus_times(p: u8, a: u8, k: u8, b: u8) -> u8
     requires positive { 1 ≤ p }
     ensures sum { result ≡ (a + k * b) % p }
     ensures below { result < p }
 {
-    ((u32::from(a) + u32::from(k) * u32::from(b)) % u32::from(p)) as u8
+    let sum = u32::from(a) + u32::from(k) * u32::from(b);
+    let rest = match p {
+        2 => sum % 2,
+        3 => sum % 3,
+        5 => sum % 5,
+        _ => sum % u32::from(p),
+    };
+    rest as u8
 }
 
 /// The number that gives 1 with `a` modulo `p`.
