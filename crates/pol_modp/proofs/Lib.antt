@@ -6,6 +6,9 @@ pub mod Echelon
 pub mod Spreading
 pub mod BasisLemmas
 pub mod Solution
+pub mod AffineSums
+pub mod AffineRows
+pub mod Exactly
 pub mod SumLemmas
 pub mod FirstFailing
 pub mod CombinationSound

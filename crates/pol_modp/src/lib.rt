@@ -4,6 +4,7 @@
 mod arithmetic;
 mod checking;
 mod combination;
+mod complement;
 mod elimination;
 mod equation;
 mod pivots;
@@ -12,5 +13,6 @@ mod sums;
 
 pub use checking::{CombFault, check_combination};
 pub use combination::{Combination, Part};
+pub use complement::null_space;
 pub use elimination::{Elim, eliminate};
 pub use equation::Equation;
