@@ -13,4 +13,5 @@ pub mod SumLemmas
 pub mod FirstFailing
 pub mod CombinationSound
 pub mod CombinationTests
+pub mod FirstFaults
 pub mod CombinationExamples

@@ -1,8 +1,8 @@
-ghost use Rattle.std.specs.Prelude.{◌≡◌, ◌↔◌, length, All, IsOk, OnOk, IfNone};
+ghost use Rattle.std.specs.Prelude.{◌≡◌, ◌↔◌, length, All, IsOk, OnOk, IfErr, IfNone};
 ghost use Rattle.std.specs.Result.{result_err};
 ghost use Rattle.pol_relation.specs.Instances.{Fits, HasNoSolution};
 ghost use Rattle.pol_modp.specs.Parts.{part_named};
-ghost use Rattle.pol_modp.specs.ValidCombinations.{IsPlaced, IsValidCombination};
+ghost use Rattle.pol_modp.specs.ValidCombinations.{IsPlaced, IsValidCombination, IsFirstFault};
 ghost use Rattle.pol_modp.specs.CombinationFaults.{are_below, are_labels, part_placed, part_implied, is_zero_at};
 ghost use Rattle.pol_modp.specs.CombinationFaults.{variables_of, first_failing, combination_fault};
 
@@ -37,6 +37,7 @@ pub fn check_combination(
     requires fits { Fits lang.now inst.now }
     ensures valid { IsOk result ↔ IsValidCombination lang.now inst.now combination.now }
     ensures refuted { OnOk result (HasNoSolution lang.now inst.now) }
+    ensures first { IfErr result (IsFirstFault lang.now inst.now combination.now) }
     ensures first_fault { result_err result ≡ combination_fault lang.now inst.now combination.now }
 {
     match first_fault(lang, inst, combination) {

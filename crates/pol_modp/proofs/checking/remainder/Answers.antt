@@ -1,19 +1,14 @@
-use Rattle.std.proofs.Common.{◌≡◌, ℕ, ◌+◌, ◌%◌, ◌≤◌, ◌<◌, eqb, length, get_or, sym, ap, ◌∙◌, arith}
+use Rattle.std.proofs.Common.{◌%◌, ◌≤◌, ◌<◌, eqb, length, sym, ap, ◌∙◌, arith}
 use Rattle.std.specs.List.{list_all, range_with_len}
 use Rattle.std.proofs.lemmas.Bool.{eq-eqb, ne_eqb}
 use Rattle.std.proofs.lemmas.List.{take_all}
-use Rattle.std.proofs.lemmas.List.FromFn.{length-range_with_len, get_or-range_with_len}
+use Rattle.std.proofs.lemmas.List.FromFn.{length-range_with_len}
 use Rattle.pol_modp.specs.Combinations.{sum_at}
 use Rattle.pol_modp.specs.CombinationFaults.{is_zero_at}
 use Rattle.pol_modp.proofs.FirstFailing.{first_failing-at, first_failing-all}
 use Rattle.pol_modp.proofs.FirstFailing.{all-next}
+use Rattle.pol_modp.proofs.CombinationTests.{number_at}
 use Rattle.pol_modp.proofs.checking.remainder.Goals as goal
-
-number_at : (n v : ℕ) → v < n → get_or (range_with_len 0 n) v 0 ≡ v
-number_at n v inside = get_or-range_with_len 0 n v 0 inside ∙ plain v
-  where
-    plain : (v : ℕ) → 0 + v ≡ v
-    plain v = omega arith
 
 pub returns-then-sum_at-ne0 : goal.returns-then-sum_at-ne0
 returns-then-sum_at-ne0 c =
