@@ -16,3 +16,6 @@ pub use combination::{Combination, Part};
 pub use complement::null_space;
 pub use elimination::{Elim, eliminate};
 pub use equation::Equation;
+
+#[cfg(test)]
+mod combination_tests;
