@@ -1,0 +1,17 @@
+pub mod Modular
+pub mod DotLemmas
+pub mod ClashRefutes
+pub mod RowLemmas
+pub mod Echelon
+pub mod Spreading
+pub mod BasisLemmas
+pub mod Solution
+pub mod AffineSums
+pub mod AffineRows
+pub mod Exactly
+pub mod SumLemmas
+pub mod FirstFailing
+pub mod CombinationSound
+pub mod CombinationTests
+pub mod FirstFaults
+pub mod CombinationExamples

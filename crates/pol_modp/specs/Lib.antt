@@ -1,0 +1,9 @@
+pub mod Equations
+pub mod Answers
+pub mod Rows
+pub mod AffineSets
+pub mod Nulls
+pub mod Combinations
+pub mod Parts
+pub mod ValidCombinations
+pub mod CombinationFaults
