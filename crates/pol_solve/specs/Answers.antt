@@ -6,12 +6,13 @@ use Rattle.pol_relation.specs.Relations.{LanguageView}
 use Rattle.pol_relation.specs.Instances.{InstanceView, IsSolution, HasNoSolution}
 use Rattle.pol_nogood.specs.Answers.{IsCertificate}
 use Rattle.pol_nogood.specs.Trims.{AreReferredTo}
+use Rattle.pol_affine.specs.Answers.{IsSumCertificate}
 use Rattle.pol_optable.specs.Choices.{FirstFound}
 use Rattle.pol_optable.specs.declared.classes.Classes.{Classes}
 use Rattle.pol_solve.specs.declared.answering.InstanceAnswer.{InstanceAnswer}
 use Rattle.pol_solve.specs.declared.answering.InstanceAnswer.TheVariants as answer
 
--- how many pairs the nogoods of a log have at most that shows a No of the class; none where the class has no solver
+-- how many pairs the nogoods of a log have at most that shows a No of the class; none where no log does
 abbrev pub most_pairs : ClassName → Option ℕ
 most_pairs Constant = Some 1
 most_pairs Semilattice = Some 1
@@ -24,24 +25,39 @@ most_pairs Maltsev = None
 -- no class is chosen, or one that has no solver
 abbrev pub HasNoSolver : Option ClassName → Type 0
 HasNoSolver None = ⊤
-HasNoSolver (Some class) = most_pairs class ≡ None
+HasNoSolver (Some Maltsev) = ⊤
+HasNoSolver (Some class) = ⊥
 
 -- a solution, or where there is none a log whose nogoods have at most so many pairs, and of which each step but the
 -- last is referred to
 abbrev pub IsLogAnswer : ℕ → LanguageView → InstanceView → InstanceAnswer → Type 0
 IsLogAnswer most lang inst (answer.Yes values) = IsSolution lang inst values
 IsLogAnswer most lang inst (answer.NoLog log) = HasNoSolution lang inst × IsCertificate most lang inst log × AreReferredTo log
+IsLogAnswer most lang inst (answer.NoSum combination) = ⊥
 IsLogAnswer most lang inst answer.Undecided = ⊥
 
--- an answer with such a log, and undecided where there is no solver
+-- a solution, or where there is none a valid combination of few parts, none of which is taken 0 times
+abbrev pub IsSumAnswer : LanguageView → InstanceView → InstanceAnswer → Type 0
+IsSumAnswer lang inst (answer.Yes values) = IsSolution lang inst values
+IsSumAnswer lang inst (answer.NoLog log) = ⊥
+IsSumAnswer lang inst (answer.NoSum combination) = HasNoSolution lang inst × IsSumCertificate lang inst combination
+IsSumAnswer lang inst answer.Undecided = ⊥
+
+-- an answer with such a log, where the class has logs
 abbrev pub AnswersByLog : Option ℕ → LanguageView → InstanceView → InstanceAnswer → Type 0
-AnswersByLog None lang inst given = given ≡ answer.Undecided
+AnswersByLog None lang inst given = ⊥
 AnswersByLog (Some most) lang inst given = IsLogAnswer most lang inst given
+
+-- what the class owes: an answer with a log or a combination, and undecided where it has no solver
+abbrev pub AnswersOf : ClassName → LanguageView → InstanceView → InstanceAnswer → Type 0
+AnswersOf Affine lang inst given = IsSumAnswer lang inst given
+AnswersOf Maltsev lang inst given = given ≡ answer.Undecided
+AnswersOf class lang inst given = AnswersByLog (most_pairs class) lang inst given
 
 -- the answer that the class owes, and undecided where there is none
 abbrev pub AnswersBy : Option ClassName → LanguageView → InstanceView → InstanceAnswer → Type 0
 AnswersBy None lang inst given = given ≡ answer.Undecided
-AnswersBy (Some class) lang inst given = AnswersByLog (most_pairs class) lang inst given
+AnswersBy (Some class) lang inst given = AnswersOf class lang inst given
 
 -- the answer that the first class owes of which a table was found
 abbrev pub AnswersByFirst : LanguageView → InstanceView → Classes → InstanceAnswer → Type 0

@@ -3,15 +3,18 @@ ghost use Rattle.pol_base.specs.declared.class_name.ClassName.TheVariants as cla
 ghost use Rattle.pol_relation.specs.Relations.{LanguageView};
 ghost use Rattle.pol_relation.specs.Instances.{InstanceView, Fits};
 ghost use Rattle.pol_nogood.specs.Answers.{YesSolves, NoOnlyWithoutSolution, NoHasCertificate};
+ghost use Rattle.pol_affine.specs.Answers.{SumYesSolves, SumNoOnlyWithoutSolution, SumNoHasCertificate};
 ghost use Rattle.pol_optable.specs.Operations.{IsPolymorphism};
 ghost use Rattle.pol_optable.specs.Identities.{IsNearUnanimity};
 ghost use Rattle.pol_optable.specs.Choices.{AreTables, HasTable};
-ghost use Rattle.pol_solve.specs.Answers.{IsLogAnswer, AnswersByFirst};
+ghost use Rattle.pol_solve.specs.Answers.{IsLogAnswer, IsSumAnswer, AnswersByFirst};
 
 use crate::choosing::chosen_solution;
 use crate::solve_constant;
 use pol_arc::{Consistency, arc, solve_width_one};
 use pol_base::{ClassName, NoMemory, Values};
+use pol_affine::{SumAnswer, solve_affine};
+use pol_modp::Combination;
 use pol_nogood::{Log, LogAnswer, trimmed};
 use pol_optable::{Classes, Nu4, OpTable};
 use pol_relation::{Instance, Language};
@@ -19,11 +22,13 @@ use pol_setfn::fold;
 use pol_strong::solve_nu;
 use std::alloc::Global;
 
-/// What is answered of an instance: a solution, No with a log that shows it, or that nothing is decided.
+/// What is answered of an instance: a solution, No with a log or a combination that shows it, or that
+/// nothing is decided.
 #[derive(Debug, Drop)]
 pub enum InstanceAnswer {
     Yes(Values),
     NoLog(Log),
+    NoSum(Combination),
     Undecided,
 }
 
@@ -38,6 +43,7 @@ pub fn answer(
 ) -> Result<InstanceAnswer, NoMemory>
     requires fits { Fits lang.now inst.now }
     requires few_variables { length inst.now.variables ≤ 40 }
+    requires few_constraints { length inst.now.constraints ≤ 256 }
     requires tables { AreTables lang.now classes.now }
     ensures answers { IfOk result (AnswersByFirst lang.now inst.now classes.now) }
 {
@@ -47,7 +53,7 @@ pub fn answer(
         Some(ClassName::SetFunction) => by_set_function(alloc, lang, inst, classes),
         Some(ClassName::Majority) => by_majority(alloc, lang, inst, classes),
         Some(ClassName::Nu4) => by_nu4(alloc, lang, inst, classes),
-        Some(ClassName::Affine) => Ok(InstanceAnswer::Undecided),
+        Some(ClassName::Affine) => by_affine(alloc, lang, inst, classes),
         Some(ClassName::Maltsev) => Ok(InstanceAnswer::Undecided),
         None => Ok(InstanceAnswer::Undecided),
     }
@@ -158,6 +164,29 @@ fn by_nu4(
     }
 }
 
+/// Answers by the affine operation.
+fn by_affine(
+    alloc: Global,
+    lang: &Language,
+    inst: &Instance,
+    classes: &Classes,
+) -> Result<InstanceAnswer, NoMemory>
+    requires fits { Fits lang.now inst.now }
+    requires few_variables { length inst.now.variables ≤ 40 }
+    requires few_constraints { length inst.now.constraints ≤ 256 }
+    requires tables { AreTables lang.now classes.now }
+    ensures answers { HasTable classes.now class.Affine → IfOk result (IsSumAnswer lang.now inst.now) }
+{
+    let _domain = lang.domain();
+    match &classes.affine {
+        Some(op) => {
+            let _cells = op.cells();
+            by_sum(solve_affine(alloc, lang, inst, op)?)
+        }
+        None => Ok(InstanceAnswer::Undecided),
+    }
+}
+
 /// Answers by a near-unanimity operation: where arc consistency leaves a variable no value, by its log;
 /// where values that are chosen one by one are a solution, by these; and else by strong consistency.
 fn by_near_unanimity<const K: usize>(
@@ -196,4 +225,18 @@ fn by_log(alloc: Global, given: LogAnswer) -> Result<InstanceAnswer, NoMemory>
         LogAnswer::Yes(values) => Ok(InstanceAnswer::Yes(values)),
         LogAnswer::No(log) => Ok(InstanceAnswer::NoLog(trimmed(alloc, &log)?)),
     }
+}
+
+/// What the solver with combinations answers.
+fn by_sum(given: SumAnswer) -> Result<InstanceAnswer, NoMemory>
+    ensures answers { (lang : LanguageView) (inst : InstanceView)
+        → SumYesSolves lang inst given
+        → SumNoOnlyWithoutSolution lang inst given
+        → SumNoHasCertificate lang inst given
+        → IfOk result (IsSumAnswer lang inst) }
+{
+    Ok(match given {
+        SumAnswer::Yes(values) => InstanceAnswer::Yes(values),
+        SumAnswer::No(combination) => InstanceAnswer::NoSum(combination),
+    })
 }

@@ -33,7 +33,7 @@ returns-in-Some-Nu4 c =
 pub returns-in-Some-Affine : goal.returns-in-Some-Affine
 returns-in-Some-Affine c =
     let first = subst (FirstFound c.args.classes.now) (c.in-Some-Affine.is ∙ ap (λ class. Some class) c.in-Some-Affine.field-0-is) c.first.ensures.first in
-    record { answers = by_first c.args.lang.now c.args.inst.now c.args.classes.now (Some Affine) first Undecided refl }
+    record { answers = by_first_ok c.args.lang.now c.args.inst.now c.args.classes.now c.by_affine.result (Some Affine) first (c.by_affine.ensures.answers first.holds) }
 
 pub returns-in-Some-Maltsev : goal.returns-in-Some-Maltsev
 returns-in-Some-Maltsev c =
