@@ -6,17 +6,19 @@ use Rattle.std.proofs.lemmas.List.{length-map, get_or_append_left, get_or-append
 use Rattle.std.proofs.lemmas.Option.{slice_get-get_or}
 use Rattle.std.proofs.lemmas.Slice.Zip.{AllZip-left, AllZip-long}
 use Rattle.pol_base.specs.declared.class_name.ClassName.{ClassName}
-use Rattle.pol_base.specs.declared.class_name.ClassName.TheVariants.{Constant}
+use Rattle.pol_base.specs.declared.class_name.ClassName.TheVariants.{Constant, Semilattice, SetFunction, Majority, Nu4, Affine, Maltsev}
 use Rattle.pol_relation.specs.Relations.{LanguageView}
 use Rattle.pol_relation.specs.Instances.{InstanceView, IsSolution, HasNoSolution}
 use Rattle.pol_nogood.specs.Logs.{StepView}
 use Rattle.pol_nogood.specs.Answers.{IsCertificate}
 use Rattle.pol_nogood.specs.Trims.{AreReferredTo}
+use Rattle.pol_modp.specs.Combinations.{CombinationView}
+use Rattle.pol_affine.specs.Answers.{IsSumCertificate}
 use Rattle.pol_optable.specs.ClassLines.{Line, ClassLine, Chooses, all_classes}
 use Rattle.pol_optable.proofs.LineLemmas.{one_line, one_choice}
 use Rattle.pol_solve.specs.declared.answering.InstanceAnswer.{InstanceAnswer}
 use Rattle.pol_solve.specs.declared.answering.InstanceAnswer.TheVariants as answer
-use Rattle.pol_solve.specs.Answers.{most_pairs, HasNoSolver, IsLogAnswer, AnswersByLog, AnswersBy}
+use Rattle.pol_solve.specs.Answers.{most_pairs, HasNoSolver, IsLogAnswer, IsSumAnswer, AnswersByLog, AnswersOf, AnswersBy}
 use Rattle.pol_report.specs.declared.item.Item.{Item}
 use Rattle.pol_report.specs.declared.item.Item.TheVariants as item
 use Rattle.pol_report.specs.Texts.{last_line}
@@ -93,62 +95,136 @@ owed_by lang inst chosen told chooses item =
       item.item_is ∙ ap (λ some. answer_item inst.name some item.given) same,
     )
 
--- and by its solver
-owed_by_log :
-    (lang : LanguageView) (inst : InstanceView) (class : ClassName) (most : ℕ) (told : Item)
-    → Chooses lang (Some class)
-    → most_pairs class ≡ Some most
-    → (item : IsInstanceItem lang inst told)
-    → IsLogAnswer most lang inst item.given × (told ≡ answer_item inst.name (Some class) item.given)
-owed_by_log lang inst class most told chooses solver item =
-    let owed = owed_by lang inst (Some class) told chooses item in
-    (subst (λ some. AnswersByLog some lang inst item.given) solver owed.0, owed.1)
+-- ---- a solution
 
--- an instance that has a solution gets one
-solved :
-    (lang : LanguageView) (inst : InstanceView) (class : ClassName) (most : ℕ) (told : Item) (some : List ℕ) (given : InstanceAnswer)
+-- an answer with a log gives an instance that has a solution one
+solved_by_log :
+    (most : ℕ) (lang : LanguageView) (inst : InstanceView) (class : ClassName) (told : Item) (some : List ℕ) (given : InstanceAnswer)
     → IsSolution lang inst some
     → IsLogAnswer most lang inst given
     → told ≡ answer_item inst.name (Some class) given
     → (values : List ℕ) × IsSolution lang inst values × (told ≡ item.Yes inst.name class values)
-solved lang inst class most told some (answer.Yes values) solution owed same = (values, owed, same)
-solved lang inst class most told some (answer.NoLog log) solution owed same = absurd (owed.0 some solution)
-solved lang inst class most told some answer.Undecided solution owed same = absurd owed
+solved_by_log most lang inst class told some (answer.Yes values) solution owed same = (values, owed, same)
+solved_by_log most lang inst class told some (answer.NoLog log) solution owed same = absurd (owed.0 some solution)
+solved_by_log most lang inst class told some (answer.NoSum combination) solution owed same = absurd owed
+solved_by_log most lang inst class told some answer.Undecided solution owed same = absurd owed
 
-pub solvable_solved : (lang : LanguageView) (inst : InstanceView) (class : ClassName) (most : ℕ) (told : Item) (some : List ℕ) → Chooses lang (Some class) → most_pairs class ≡ Some most → IsSolution lang inst some → IsInstanceItem lang inst told → (values : List ℕ) × IsSolution lang inst values × (told ≡ item.Yes inst.name class values)
-solvable_solved lang inst class most told some chooses solver solution is =
-    let owed = owed_by_log lang inst class most told chooses solver is in
-    solved lang inst class most told some is.given solution owed.0 owed.1
+-- and so does one with a combination
+solved_by_sum :
+    (lang : LanguageView) (inst : InstanceView) (class : ClassName) (told : Item) (some : List ℕ) (given : InstanceAnswer)
+    → IsSolution lang inst some
+    → IsSumAnswer lang inst given
+    → told ≡ answer_item inst.name (Some class) given
+    → (values : List ℕ) × IsSolution lang inst values × (told ≡ item.Yes inst.name class values)
+solved_by_sum lang inst class told some (answer.Yes values) solution owed same = (values, owed, same)
+solved_by_sum lang inst class told some (answer.NoLog log) solution owed same = absurd owed
+solved_by_sum lang inst class told some (answer.NoSum combination) solution owed same = absurd (owed.0 some solution)
+solved_by_sum lang inst class told some answer.Undecided solution owed same = absurd owed
 
--- and one that has none a log
-refuted :
+solved :
+    (class : ClassName) (lang : LanguageView) (inst : InstanceView) (told : Item) (some : List ℕ) (given : InstanceAnswer)
+    → ¬ HasNoSolver (Some class)
+    → IsSolution lang inst some
+    → AnswersOf class lang inst given
+    → told ≡ answer_item inst.name (Some class) given
+    → (values : List ℕ) × IsSolution lang inst values × (told ≡ item.Yes inst.name class values)
+solved Constant lang inst told some given solver solution owed same = solved_by_log 1 lang inst Constant told some given solution owed same
+solved Semilattice lang inst told some given solver solution owed same = solved_by_log 1 lang inst Semilattice told some given solution owed same
+solved SetFunction lang inst told some given solver solution owed same = solved_by_log 1 lang inst SetFunction told some given solution owed same
+solved Majority lang inst told some given solver solution owed same = solved_by_log 2 lang inst Majority told some given solution owed same
+solved Nu4 lang inst told some given solver solution owed same = solved_by_log 3 lang inst Nu4 told some given solution owed same
+solved Affine lang inst told some given solver solution owed same = solved_by_sum lang inst Affine told some given solution owed same
+solved Maltsev lang inst told some given solver solution owed same = absurd (solver tt)
+
+pub solvable_solved :
+    (lang : LanguageView) (inst : InstanceView) (class : ClassName) (told : Item) (some : List ℕ)
+    → Chooses lang (Some class)
+    → ¬ HasNoSolver (Some class)
+    → IsSolution lang inst some
+    → IsInstanceItem lang inst told
+    → (values : List ℕ) × IsSolution lang inst values × (told ≡ item.Yes inst.name class values)
+solvable_solved lang inst class told some chooses solver solution is =
+    let owed = owed_by lang inst (Some class) told chooses is in
+    solved class lang inst told some is.given solver solution owed.0 owed.1
+
+-- ---- no solution
+
+-- a class with logs owes an answer with one
+owes_log :
+    (class : ClassName) (most : ℕ) (lang : LanguageView) (inst : InstanceView) (given : InstanceAnswer)
+    → most_pairs class ≡ Some most
+    → AnswersOf class lang inst given
+    → IsLogAnswer most lang inst given
+owes_log Constant most lang inst given logs owed = subst (λ some. AnswersByLog some lang inst given) logs owed
+owes_log Semilattice most lang inst given logs owed = subst (λ some. AnswersByLog some lang inst given) logs owed
+owes_log SetFunction most lang inst given logs owed = subst (λ some. AnswersByLog some lang inst given) logs owed
+owes_log Majority most lang inst given logs owed = subst (λ some. AnswersByLog some lang inst given) logs owed
+owes_log Nu4 most lang inst given logs owed = subst (λ some. AnswersByLog some lang inst given) logs owed
+owes_log Affine most lang inst given logs owed = absurd (cc logs)
+owes_log Maltsev most lang inst given logs owed = absurd (cc logs)
+
+refuted_by_log :
     (lang : LanguageView) (inst : InstanceView) (class : ClassName) (most : ℕ) (told : Item) (given : InstanceAnswer)
     → HasNoSolution lang inst
     → IsLogAnswer most lang inst given
     → told ≡ answer_item inst.name (Some class) given
     → (log : List StepView) × IsCertificate most lang inst log × AreReferredTo log × (told ≡ item.NoLog inst.name class log)
-refuted lang inst class most told (answer.Yes values) none owed same = absurd (none values owed)
-refuted lang inst class most told (answer.NoLog log) none owed same = (log, owed.1, owed.2, same)
-refuted lang inst class most told answer.Undecided none owed same = absurd owed
+refuted_by_log lang inst class most told (answer.Yes values) none owed same = absurd (none values owed)
+refuted_by_log lang inst class most told (answer.NoLog log) none owed same = (log, owed.1, owed.2, same)
+refuted_by_log lang inst class most told (answer.NoSum combination) none owed same = absurd owed
+refuted_by_log lang inst class most told answer.Undecided none owed same = absurd owed
 
-pub others_refuted : (lang : LanguageView) (inst : InstanceView) (class : ClassName) (most : ℕ) (told : Item) → Chooses lang (Some class) → most_pairs class ≡ Some most → HasNoSolution lang inst → IsInstanceItem lang inst told → (log : List StepView) × IsCertificate most lang inst log × AreReferredTo log × (told ≡ item.NoLog inst.name class log)
-others_refuted lang inst class most told chooses solver none is =
-    let owed = owed_by_log lang inst class most told chooses solver is in
-    refuted lang inst class most told is.given none owed.0 owed.1
+pub logs_refute :
+    (lang : LanguageView) (inst : InstanceView) (class : ClassName) (most : ℕ) (told : Item)
+    → Chooses lang (Some class)
+    → most_pairs class ≡ Some most
+    → HasNoSolution lang inst
+    → IsInstanceItem lang inst told
+    → (log : List StepView) × IsCertificate most lang inst log × AreReferredTo log × (told ≡ item.NoLog inst.name class log)
+logs_refute lang inst class most told chooses logs none is =
+    let owed = owed_by lang inst (Some class) told chooses is in
+    refuted_by_log lang inst class most told is.given none (owes_log class most lang inst is.given logs owed.0) owed.1
+
+refuted_by_sum :
+    (lang : LanguageView) (inst : InstanceView) (told : Item) (given : InstanceAnswer)
+    → HasNoSolution lang inst
+    → IsSumAnswer lang inst given
+    → told ≡ answer_item inst.name (Some Affine) given
+    → (combination : CombinationView) × IsSumCertificate lang inst combination × (told ≡ item.NoSum inst.name combination)
+refuted_by_sum lang inst told (answer.Yes values) none owed same = absurd (none values owed)
+refuted_by_sum lang inst told (answer.NoLog log) none owed same = absurd owed
+refuted_by_sum lang inst told (answer.NoSum combination) none owed same = (combination, owed.1, same)
+refuted_by_sum lang inst told answer.Undecided none owed same = absurd owed
+
+pub combinations_refute :
+    (lang : LanguageView) (inst : InstanceView) (told : Item)
+    → Chooses lang (Some Affine)
+    → HasNoSolution lang inst
+    → IsInstanceItem lang inst told
+    → (combination : CombinationView) × IsSumCertificate lang inst combination × (told ≡ item.NoSum inst.name combination)
+combinations_refute lang inst told chooses none is =
+    let owed = owed_by lang inst (Some Affine) told chooses is in
+    refuted_by_sum lang inst told is.given none owed.0 owed.1
+
+-- ---- no solver
 
 -- without a solver nothing is decided
 undecided :
-    (lang : LanguageView) (inst : InstanceView) (chosen : Option ClassName) (told : Item) (given : InstanceAnswer)
+    (chosen : Option ClassName) (lang : LanguageView) (inst : InstanceView) (told : Item) (given : InstanceAnswer)
     → HasNoSolver chosen
     → AnswersBy chosen lang inst given
     → told ≡ answer_item inst.name chosen given
     → told ≡ item.Undecided inst.name
-undecided lang inst None told given none owed same = same
-undecided lang inst (Some class) told given none owed same =
-    let nothing = subst (λ some. AnswersByLog some lang inst given) none owed in
-    same ∙ ap (λ some. answer_item inst.name (Some class) some) nothing
+undecided None lang inst told given none owed same = same
+undecided (Some Constant) lang inst told given none owed same = absurd none
+undecided (Some Semilattice) lang inst told given none owed same = absurd none
+undecided (Some SetFunction) lang inst told given none owed same = absurd none
+undecided (Some Majority) lang inst told given none owed same = absurd none
+undecided (Some Nu4) lang inst told given none owed same = absurd none
+undecided (Some Affine) lang inst told given none owed same = absurd none
+undecided (Some Maltsev) lang inst told given none owed same = same ∙ ap (λ some. answer_item inst.name (Some Maltsev) some) owed
 
 pub others_undecided : (lang : LanguageView) (inst : InstanceView) (chosen : Option ClassName) (told : Item) → Chooses lang chosen → HasNoSolver chosen → IsInstanceItem lang inst told → told ≡ item.Undecided inst.name
 others_undecided lang inst chosen told chooses none is =
     let owed = owed_by lang inst chosen told chooses is in
-    undecided lang inst chosen told is.given none owed.0 owed.1
+    undecided chosen lang inst told is.given none owed.0 owed.1

@@ -2,7 +2,7 @@
 use Rattle.std.specs.Prelude.{◌≡◌, ℕ, ◌+◌, ◌<◌, ◌≤◌, ◌⊎◌, ◌↔◌, List, [], ◌++◌, length, Option, Some, Err}
 use Rattle.std.specs.Prelude.{IsSomeAnd, slice_get, slice_index_or}
 use Rattle.pol_base.specs.declared.class_name.ClassName.{ClassName}
-use Rattle.pol_base.specs.declared.class_name.ClassName.TheVariants.{Constant}
+use Rattle.pol_base.specs.declared.class_name.ClassName.TheVariants.{Constant, Affine}
 use Rattle.pol_text.specs.declared.refusal.Refusal.{Refusal}
 use Rattle.pol_text.specs.Refusals.{refusal_line}
 use Rattle.pol_text.specs.Texts.{joined}
@@ -11,6 +11,8 @@ use Rattle.pol_relation.specs.Instances.{InstanceView, IsSolution, HasNoSolution
 use Rattle.pol_nogood.specs.Logs.{StepView}
 use Rattle.pol_nogood.specs.Answers.{IsCertificate}
 use Rattle.pol_nogood.specs.Trims.{AreReferredTo}
+use Rattle.pol_modp.specs.Combinations.{CombinationView}
+use Rattle.pol_affine.specs.Answers.{IsSumCertificate}
 use Rattle.pol_optable.specs.ClassLines.{Line, ClassLine, Chooses, all_classes}
 use Rattle.pol_solve.specs.Answers.{most_pairs, HasNoSolver}
 use Rattle.pol_report.specs.declared.item.Item.{Item}
@@ -58,23 +60,34 @@ ClassLinesAreTold =
 -- where the chosen class has a solver, an instance that has a solution gets one
 abbrev pub SolvableAreSolved : Type 0
 SolvableAreSolved =
-    (lang : LanguageView) (inst : InstanceView) (class : ClassName) (most : ℕ) (told : Item) (some : List ℕ)
+    (lang : LanguageView) (inst : InstanceView) (class : ClassName) (told : Item) (some : List ℕ)
     → Chooses lang (Some class)
-    → most_pairs class ≡ Some most
+    → ¬ HasNoSolver (Some class)
     → IsSolution lang inst some
     → IsInstanceItem lang inst told
     → (values : List ℕ) × IsSolution lang inst values × (told ≡ item.Yes inst.name class values)
 
--- and an instance that has none gets a No with its certificate, of which each step but the last is referred to
-abbrev pub OthersAreRefuted : Type 0
-OthersAreRefuted =
+-- an instance that has none gets, where the chosen class has logs, a No with one, of which each step but the last is
+-- referred to
+abbrev pub LogsRefute : Type 0
+LogsRefute =
     (lang : LanguageView) (inst : InstanceView) (class : ClassName) (most : ℕ) (told : Item)
     → Chooses lang (Some class)
     → most_pairs class ≡ Some most
     → HasNoSolution lang inst
     → IsInstanceItem lang inst told
     → (log : List StepView) × IsCertificate most lang inst log × AreReferredTo log
-    × (told ≡ item.NoLog inst.name class log)
+        × (told ≡ item.NoLog inst.name class log)
+
+-- and of the class `affine` a No with a combination
+abbrev pub CombinationsRefute : Type 0
+CombinationsRefute =
+    (lang : LanguageView) (inst : InstanceView) (told : Item)
+    → Chooses lang (Some Affine)
+    → HasNoSolution lang inst
+    → IsInstanceItem lang inst told
+    → (combination : CombinationView) × IsSumCertificate lang inst combination
+        × (told ≡ item.NoSum inst.name combination)
 
 -- where the chosen class has none, or no class is chosen, an instance is undecided
 abbrev pub OthersAreUndecided : Type 0

@@ -32,6 +32,7 @@ abbrev pub answer_item : List ℕ → Option ClassName → InstanceAnswer → It
 answer_item name None given = item.Undecided name
 answer_item name (Some class) (answer.Yes values) = item.Yes name class values
 answer_item name (Some class) (answer.NoLog log) = item.NoLog name class log
+answer_item name (Some class) (answer.NoSum combination) = item.NoSum name combination
 answer_item name (Some class) answer.Undecided = item.Undecided name
 
 -- the item tells the answer that the chosen class owes the instance

@@ -1,5 +1,6 @@
 ghost use Rattle.pol_cli.specs.Laws.{ReportsAreWhole, BegunReportsAreWhole, ClassLinesAreTold};
-ghost use Rattle.pol_cli.specs.Laws.{SolvableAreSolved, OthersAreRefuted, OthersAreUndecided, ClassItemsArePrintable, InstanceItemsArePrintable};
+ghost use Rattle.pol_cli.specs.Laws.{SolvableAreSolved, LogsRefute, CombinationsRefute, OthersAreUndecided};
+ghost use Rattle.pol_cli.specs.Laws.{ClassItemsArePrintable, InstanceItemsArePrintable};
 ghost use Rattle.pol_cli.specs.Laws.{DueIsDecided, FilesAreReported, OthersAreRefused, FrontsOfUsage, FrontsOfReports};
 ghost use Rattle.pol_cli.specs.Laws.{InputsAreRead, FaultsReadFew, ReadFaultsReadFewer, StatusTells, ZeroIsDone, UnflushedIsCutOff};
 
@@ -9,7 +10,8 @@ pub fn report_laws()
     ensures begun { BegunReportsAreWhole }
     ensures classes { ClassLinesAreTold }
     ensures solved { SolvableAreSolved }
-    ensures refuted { OthersAreRefuted }
+    ensures refuted_by_log { LogsRefute }
+    ensures refuted_by_sum { CombinationsRefute }
     ensures undecided { OthersAreUndecided }
     ensures printable_classes { ClassItemsArePrintable }
     ensures printable_instances { InstanceItemsArePrintable }

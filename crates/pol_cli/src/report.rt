@@ -136,6 +136,7 @@ fn instance_item(
 ) -> Result<Item, NoMemory>
     requires fits { Fits lang.now inst.now }
     requires few_variables { length inst.now.variables ≤ 40 }
+    requires few_constraints { length inst.now.constraints ≤ 256 }
     requires lines { AreLines lang.now classes.now }
     ensures item { IfOk result (IsInstanceItem lang.now inst.now) }
 {
@@ -152,6 +153,7 @@ fn answer_item(name: Values, chosen: Option<ClassName>, given: InstanceAnswer) -
         Some(kind) => match given {
             InstanceAnswer::Yes(values) => Item::Yes { name, kind, values },
             InstanceAnswer::NoLog(log) => Item::NoLog { name, kind, log },
+            InstanceAnswer::NoSum(combination) => Item::NoSum { name, combination },
             InstanceAnswer::Undecided => Item::Undecided { name },
         },
         None => Item::Undecided { name },

@@ -1,5 +1,5 @@
 use Rattle.pol_cli.proofs.PrintableItems.{class_printable, instance_printable}
-use Rattle.pol_cli.proofs.ReportLaws.{reports_whole, begun_whole, class_lines_told, solvable_solved, others_refuted, others_undecided}
+use Rattle.pol_cli.proofs.ReportLaws.{reports_whole, begun_whole, class_lines_told, solvable_solved, logs_refute, combinations_refute, others_undecided}
 use Rattle.pol_cli.proofs.laws.report_laws.Goals as goal
 
 pub returns-clause-whole : goal.returns-clause-whole
@@ -14,8 +14,11 @@ returns-clause-classes c = class_lines_told
 pub returns-clause-solved : goal.returns-clause-solved
 returns-clause-solved c = solvable_solved
 
-pub returns-clause-refuted : goal.returns-clause-refuted
-returns-clause-refuted c = others_refuted
+pub returns-clause-refuted_by_log : goal.returns-clause-refuted_by_log
+returns-clause-refuted_by_log c = logs_refute
+
+pub returns-clause-refuted_by_sum : goal.returns-clause-refuted_by_sum
+returns-clause-refuted_by_sum c = combinations_refute
 
 pub returns-clause-undecided : goal.returns-clause-undecided
 returns-clause-undecided c = others_undecided
