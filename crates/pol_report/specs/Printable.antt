@@ -5,6 +5,7 @@ use Rattle.pol_base.specs.declared.class_name.ClassName.TheVariants.{Affine, Mal
 use Rattle.pol_text.specs.Lines.{is_name}
 use Rattle.pol_nogood.specs.Nogoods.{Pair}
 use Rattle.pol_nogood.specs.Logs.{Basis, StepView}
+use Rattle.pol_modp.specs.Combinations.{PartView, CombinationView}
 use Rattle.pol_report.specs.declared.item.Item.{Item}
 use Rattle.pol_report.specs.declared.item.Item.TheVariants as item
 
@@ -45,6 +46,22 @@ pub record IsPrintableLog (log : List StepView) : Type 0 where
   pub few : length log ≤ 10037608
   pub each : All IsPrintableStep log
 
+-- the number of the constraint is short enough, the other numbers are values, and there are at most six coefficients
+pub record IsPrintablePart (p : PartView) : Type 0 where
+  pub constraint : IsShort p.constraint
+  pub multiplier : p.multiplier ≤ 4
+  pub right : p.right ≤ 4
+  pub coefs : AreValues 6 p.coefs
+
+pub record ArePrintableParts (parts : List PartView) : Type 0 where
+  pub few : length parts ≤ 4096
+  pub each : All IsPrintablePart parts
+
+-- the labels are those of the values of some domain
+pub record IsPrintableCombination (sum : CombinationView) : Type 0 where
+  pub labels : AreValues 5 sum.labels
+  pub parts : ArePrintableParts sum.parts
+
 -- a Yes of the class is its values alone
 abbrev pub HasPlainYes : ClassName → Type 0
 HasPlainYes Maltsev = ⊥
@@ -66,10 +83,15 @@ pub record IsPrintableNo (name : List ℕ) (class : ClassName) (log : List StepV
   pub has_logs : HasLogs class
   pub steps : IsPrintableLog log
 
+pub record IsPrintableNoSum (name : List ℕ) (sum : CombinationView) : Type 0 where
+  pub named : IsTrue (is_name name)
+  pub combination : IsPrintableCombination sum
+
 abbrev pub IsPrintable : Item → Type 0
 IsPrintable (item.ClassTable class cells) = AreValues 625 cells
 IsPrintable (item.ClassNone class) = ⊤
 IsPrintable item.ClassBeyond = ⊤
 IsPrintable (item.Yes name class values) = IsPrintableYes name class values
 IsPrintable (item.NoLog name class log) = IsPrintableNo name class log
+IsPrintable (item.NoSum name combination) = IsPrintableNoSum name combination
 IsPrintable (item.Undecided name) = IsTrue (is_name name)

@@ -1,11 +1,12 @@
 -- The texts of the items of a report: lines of tokens with one space between them.
 use Rattle.std.specs.Prelude.{ℕ, List, [], ◌∷◌, ◌++◌, length, map, flat_map, codes, decimal}
 use Rattle.pol_base.specs.declared.class_name.ClassName.{ClassName}
-use Rattle.pol_base.specs.declared.class_name.ClassName.TheVariants.{Nu4}
+use Rattle.pol_base.specs.declared.class_name.ClassName.TheVariants.{Affine, Nu4}
 use Rattle.pol_base.specs.Names.{class_word}
 use Rattle.pol_text.specs.Texts.{joined, printed_line}
 use Rattle.pol_nogood.specs.Nogoods.{Pair}
 use Rattle.pol_nogood.specs.Logs.{Basis, StepView}
+use Rattle.pol_modp.specs.Combinations.{PartView, CombinationView}
 use Rattle.pol_report.specs.declared.item.Item.{Item}
 use Rattle.pol_report.specs.declared.item.Item.TheVariants as item
 
@@ -55,6 +56,17 @@ abbrev pub no_item : List ℕ → ClassName → List StepView → List ℕ
 no_item name class log =
     instance_line name (codes "no" ∷ class_word class ∷ decimal (length log) ∷ []) ++ joined step_line log
 
+-- the constraint of a part, its multiplier, the right side of its equation, and the coefficients
+abbrev pub part_line : PartView → List ℕ
+part_line p =
+    printed_line (codes "part" ∷ decimal p.constraint ∷ decimal p.multiplier ∷ decimal p.right ∷ map decimal p.coefs)
+
+-- the item of a No by a combination: how many parts it has, the labels of the values, and the parts
+abbrev pub no_sum_item : List ℕ → CombinationView → List ℕ
+no_sum_item name sum =
+    instance_line name (codes "no" ∷ class_word Affine ∷ decimal (length sum.parts) ∷ map decimal sum.labels)
+        ++ joined part_line sum.parts
+
 -- the item of an instance that is not answered
 abbrev pub undecided_item : List ℕ → List ℕ
 undecided_item name = instance_line name (codes "undecided" ∷ [])
@@ -66,4 +78,5 @@ item_text (item.ClassNone class) = class_item class (codes "none" ∷ [])
 item_text item.ClassBeyond = class_item Nu4 (codes "beyond" ∷ [])
 item_text (item.Yes name class values) = yes_item name class values
 item_text (item.NoLog name class log) = no_item name class log
+item_text (item.NoSum name combination) = no_sum_item name combination
 item_text (item.Undecided name) = undecided_item name

@@ -1,4 +1,5 @@
 use pol_base::{ClassName, Values};
+use pol_modp::Combination;
 use pol_nogood::Log;
 
 /// An item of a report: the line of a class, or the answer of an instance.
@@ -26,6 +27,11 @@ pub enum Item {
         name: Values,
         kind: ClassName,
         log: Log,
+    },
+    /// A combination that shows that there is no solution, found by the method of the class `affine`.
+    NoSum {
+        name: Values,
+        combination: Combination,
     },
     /// The instance is not answered.
     Undecided {

@@ -3,6 +3,7 @@
 
 mod item;
 mod limits;
+mod part_lines;
 mod printing;
 mod step_lines;
 

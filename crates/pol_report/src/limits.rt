@@ -1,9 +1,11 @@
 ghost use Rattle.std.specs.Prelude.{◌↔◌, IsTrue};
+ghost use Rattle.pol_modp.specs.Parts.{part_named};
 ghost use Rattle.pol_nogood.specs.Steps.{step_named};
-ghost use Rattle.pol_report.specs.Printable.{AreValues, IsShort, HasPlainYes, HasLogs, ArePrintablePairs, ArePrintableReferences, IsPrintableStep, IsPrintableLog, IsPrintable};
+ghost use Rattle.pol_report.specs.Printable.{AreValues, IsShort, HasPlainYes, HasLogs, ArePrintablePairs, ArePrintableReferences, IsPrintableStep, IsPrintableLog, IsPrintablePart, ArePrintableParts, IsPrintableCombination, IsPrintable};
 
 use crate::Item;
 use pol_base::ClassName;
+use pol_modp::{Combination, Part};
 use pol_nogood::{Log, Nogood, Step};
 use pol_text::is_name;
 
@@ -15,12 +17,18 @@ const MOST_STEPS: u32 = 10_037_608;
 
 const MOST_REFERENCES: usize = 128;
 
+const MOST_LABELS: usize = 5;
+
+const MOST_PARTS: u32 = 4096;
+
+const MOST_COEFFICIENTS: usize = 6;
+
 const LARGEST_VALUE: u8 = 4;
 
 const LARGEST_NUMBER: u32 = 999_999_999;
 
 /// Whether the item is one that a report may have: its name is a name, its class is one that its form
-/// allows, and its values, steps, references and numbers are within the bounds of the format. Takes no
+/// allows, and its values, steps, references, parts and numbers are within the bounds of the format. Takes no
 /// memory.
 pub fn printable(item: &Item) -> bool
     ensures printable { IsTrue result ↔ IsPrintable item.now }
@@ -35,6 +43,9 @@ pub fn printable(item: &Item) -> bool
         }
         Item::NoLog { name, kind, log } => {
             is_name(name.as_slice()) && has_logs(*kind) && is_printable_log(log)
+        }
+        Item::NoSum { name, combination } => {
+            is_name(name.as_slice()) && is_printable_combination(combination)
         }
         Item::Undecided { name } => is_name(name.as_slice()),
     }
@@ -111,4 +122,33 @@ fn are_printable_references(references: &[u32]) -> bool
     ensures printable { IsTrue result ↔ ArePrintableReferences references.now }
 {
     references.len() <= MOST_REFERENCES && references.iter().all(|reference| is_short(*reference))
+}
+
+fn is_printable_combination(combination: &Combination) -> bool
+    ensures printable { IsTrue result ↔ IsPrintableCombination combination.now }
+{
+    are_values(combination.labels(), MOST_LABELS) && are_printable_parts(combination)
+}
+
+fn are_printable_parts(combination: &Combination) -> bool
+    ensures printable { IsTrue result ↔ ArePrintableParts combination.now.parts }
+{
+    if combination.len() > MOST_PARTS {
+        return false;
+    }
+    for i in 0..combination.len() {
+        if !is_printable_part(combination.part(i)) {
+            return false;
+        }
+    }
+    true
+}
+
+fn is_printable_part(part: &Part) -> bool
+    ensures printable { IsTrue result ↔ IsPrintablePart (part_named part.now) }
+{
+    is_short(part.c)
+        && part.multiplier <= LARGEST_VALUE
+        && part.right <= LARGEST_VALUE
+        && are_values(part.coefs.as_slice(), MOST_COEFFICIENTS)
 }

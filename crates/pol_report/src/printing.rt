@@ -1,12 +1,15 @@
 ghost use Rattle.std.specs.Prelude.{◌≡◌, ◌++◌, [], ◌∷◌, map, codes, decimal};
 ghost use Rattle.pol_base.specs.Names.{class_word};
+ghost use Rattle.pol_base.specs.declared.class_name.ClassName.TheVariants.{Affine};
 ghost use Rattle.pol_text.specs.Texts.{Puts, spaced_texts};
-ghost use Rattle.pol_report.specs.Texts.{head_line, last_line, class_item, yes_item, no_item, undecided_item, instance_line, item_text};
+ghost use Rattle.pol_report.specs.Texts.{head_line, last_line, class_item, yes_item, no_item, no_sum_item, undecided_item, instance_line, item_text};
 ghost use Rattle.pol_report.specs.Printable.{IsPrintable};
 
 use crate::Item;
+use crate::part_lines::put_parts;
 use crate::step_lines::put_steps;
 use pol_base::{ClassName, NoMemory, Values};
+use pol_modp::Combination;
 use pol_nogood::Log;
 use pol_text::{put_spaced, put_token, put_values};
 
@@ -30,6 +33,7 @@ pub fn put_item(out: &mut Values, item: &Item) -> Result<(), NoMemory>
             put_yes(out, name.as_slice(), *kind, values.as_slice())
         }
         Item::NoLog { name, kind, log } => put_no(out, name.as_slice(), *kind, log),
+        Item::NoSum { name, combination } => put_no_sum(out, name.as_slice(), combination),
         Item::Undecided { name } => put_undecided(out, name.as_slice()),
     }
 }
@@ -120,7 +124,38 @@ fn put_no_line(out: &mut Values, name: &[u8], class: ClassName, steps: u32) -> R
     ensures puts { Puts result out.old out.new
         (instance_line name.now (codes "no" ∷ class_word class ∷ decimal steps ∷ [])) }
 {
-    put_answered(out, name, b"no", class)?;
-    put_spaced(out, u64::from(steps))?;
+    put_counted(out, name, class, steps)?;
     out.append(b"\n")
+}
+
+/// Appends the line of a No by a combination, and the parts behind it.
+fn put_no_sum(out: &mut Values, name: &[u8], combination: &Combination) -> Result<(), NoMemory>
+    ensures puts { Puts result out.old out.new (no_sum_item name.now combination.now) }
+{
+    put_no_sum_line(out, name, combination.len(), combination.labels())?;
+    put_parts(out, combination)
+}
+
+/// Appends the line of a No, with the number of the parts of its combination and the labels.
+fn put_no_sum_line(
+    out: &mut Values,
+    name: &[u8],
+    parts: u32,
+    labels: &[u8],
+) -> Result<(), NoMemory>
+    ensures puts { Puts result out.old out.new
+        (instance_line name.now (codes "no" ∷ class_word Affine ∷ decimal parts ∷ map decimal labels.now)) }
+{
+    put_counted(out, name, ClassName::Affine, parts)?;
+    put_values(out, labels)?;
+    out.append(b"\n")
+}
+
+/// Appends `instance`, the name, `no`, the class, and how many lines show it.
+fn put_counted(out: &mut Values, name: &[u8], class: ClassName, lines: u32) -> Result<(), NoMemory>
+    ensures puts { Puts result out.old out.new
+        (codes "instance" ++ spaced_texts (name.now ∷ codes "no" ∷ class_word class ∷ decimal lines ∷ [])) }
+{
+    put_answered(out, name, b"no", class)?;
+    put_spaced(out, u64::from(lines))
 }

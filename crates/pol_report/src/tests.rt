@@ -1,5 +1,6 @@
 use crate::{Item, printable, put_head, put_item, put_last};
 use pol_base::{ClassName, NoMemory, Numbers, Values};
+use pol_modp::{Combination, Part};
 use pol_nogood::{Log, Nogood, Step};
 use std::alloc::Global;
 use std::test::Fail;
@@ -146,6 +147,78 @@ fn numbers_of_a_step_are_few_and_small(rt: HostRuntime) -> Result<(), Fail> {
     Ok(())
 }
 
+/// Once x + y + z = 0 and twice x + y + z = 1 give 0 = 2 modulo 3.
+#[test]
+fn lines_of_parts(rt: HostRuntime) -> Result<(), Fail> {
+    let mut sums = Combination::new(rt.alloc(), &[0, 1, 2])?;
+    assert!(rt; sums.len() < 2);
+    sums.push(part(rt.alloc(), 0, 1, 0, &[1, 1, 1])?)?;
+    assert!(rt; sums.len() < 2);
+    sums.push(part(rt.alloc(), 1, 2, 1, &[1, 1, 1])?)?;
+    let no = no_sum(rt.alloc(), b"i", sums)?;
+    let text = b"instance i no affine 2 0 1 2\npart 0 1 0 1 1 1\npart 1 2 1 1 1 1\n";
+    assert!(rt; prints(rt.alloc(), &no, text)?);
+    let none = no_sum(rt.alloc(), b"a_1", Combination::new(rt.alloc(), &[4])?)?;
+    assert!(rt; prints(rt.alloc(), &none, b"instance a_1 no affine 0 4\n")?);
+    Ok(())
+}
+
+#[test]
+fn labels_are_few_and_small(rt: HostRuntime) -> Result<(), Fail> {
+    for (labels, is) in [
+        (b"".as_slice(), false),
+        (b"\x04".as_slice(), true),
+        (b"\x05".as_slice(), false),
+        (b"\0\x01\x02\x03\x04".as_slice(), true),
+        (b"\0\x01\x02\x03\x05".as_slice(), false),
+        (b"\0\0\0\0\0\0".as_slice(), false),
+    ] {
+        let no = no_sum(rt.alloc(), b"a", Combination::new(rt.alloc(), labels)?)?;
+        assert_eq!(rt; printable(&no), is, "at {labels:?}");
+    }
+    let unnamed = no_sum(rt.alloc(), b"0", Combination::new(rt.alloc(), &[0])?)?;
+    assert!(rt; !printable(&unnamed));
+    Ok(())
+}
+
+#[test]
+fn numbers_of_a_part_are_few_and_small(rt: HostRuntime) -> Result<(), Fail> {
+    let alloc = rt.alloc();
+    let parts = [
+        (part(alloc, 999_999_999, 4, 4, &[4, 4, 4, 4, 4, 4])?, true),
+        (part(alloc, 1_000_000_000, 0, 0, &[0])?, false),
+        (part(alloc, 0, 5, 0, &[0])?, false),
+        (part(alloc, 0, 0, 5, &[0])?, false),
+        (part(alloc, 0, 0, 0, &[5])?, false),
+        (part(alloc, 0, 0, 0, &[0, 0, 0, 0, 0, 5])?, false),
+        (part(alloc, 0, 0, 0, &[])?, false),
+        (part(alloc, 0, 0, 0, &[0])?, true),
+        (part(alloc, 0, 0, 0, &[0, 0, 0, 0, 0, 0, 0])?, false),
+    ];
+    for (part, is) in parts {
+        let mut sum = Combination::new(alloc, &[0])?;
+        sum.push(part)?;
+        let no = no_sum(alloc, b"a", sum)?;
+        assert_eq!(rt; printable(&no), is);
+    }
+    Ok(())
+}
+
+#[test]
+fn parts_are_few(rt: HostRuntime) -> Result<(), Fail> {
+    let alloc = rt.alloc();
+    for (count, is) in [(4096, true), (4097, false)] {
+        let mut sum = Combination::new(alloc, &[0])?;
+        for _ in 0..count {
+            assert!(rt; sum.len() < 4097);
+            sum.push(part(alloc, 0, 0, 0, &[0])?)?;
+        }
+        let no = no_sum(alloc, b"a", sum)?;
+        assert_eq!(rt; printable(&no), is, "at {count}");
+    }
+    Ok(())
+}
+
 /// Whether the item is printable, and this is its text.
 fn prints(alloc: Global, item: &Item, text: &[u8]) -> Result<bool, NoMemory> {
     if !printable(item) {
@@ -170,6 +243,21 @@ fn yes(alloc: Global, name: &[u8], kind: ClassName, values: &[u8]) -> Result<Ite
 fn no(alloc: Global, kind: ClassName, log: Log) -> Result<Item, NoMemory> {
     let name = Values::from_slice(alloc, b"a")?;
     Ok(Item::NoLog { name, kind, log })
+}
+
+fn no_sum(alloc: Global, name: &[u8], combination: Combination) -> Result<Item, NoMemory> {
+    let name = Values::from_slice(alloc, name)?;
+    Ok(Item::NoSum { name, combination })
+}
+
+fn part(alloc: Global, c: u32, multiplier: u8, right: u8, coefs: &[u8]) -> Result<Part, NoMemory> {
+    let coefs = Values::from_slice(alloc, coefs)?;
+    Ok(Part {
+        c,
+        multiplier,
+        right,
+        coefs,
+    })
 }
 
 fn by_constraint(

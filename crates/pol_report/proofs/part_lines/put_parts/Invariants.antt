@@ -1,0 +1,8 @@
+use Rattle.std.proofs.Common.{◌≡◌, ◌++◌, take}
+use Rattle.pol_text.specs.Texts.{joined}
+use Rattle.pol_report.specs.Texts.{part_line}
+use Rattle.pol_report.proofs.part_lines.put_parts.Given as goal
+
+-- the parts so far stand behind what was there
+abbrev pub invariant-loop-i : goal.invariant-loop-i
+invariant-loop-i l = l.out ≡ l.initial.out ++ joined part_line (take l.i l.combination.parts)
