@@ -1,27 +1,32 @@
 -- The items of a report of a file can be printed: their numbers are within the bounds of the format.
-use Rattle.std.proofs.Common.{◌≡◌, ℕ, ◌^◌, ◌≤◌, List, length, take, Option, Some, None, sym, subst, arith}
-use Rattle.std.specs.Prelude.{filter}
+use Rattle.std.proofs.Common.{◌≡◌, ℕ, ◌+◌, ◌*◌, ◌^◌, ◌<◌, ◌≤◌, ◌==◌, zero, suc, cond, List, [], ◌∷◌, length, take, get_or, All, Option, Some, None, inl, inr, ap, sym, subst, arith}
+use Rattle.std.specs.Prelude.{filter, nat_lt, count_by}
 use Rattle.std.proofs.Math.Nat.{one-le-pow, pow-le-pow_left, pow-le-pow_right}
+use Rattle.std.proofs.lemmas.Bool.{cases_lt, lt-ltb, le-ltb, eq-eqb}
 use Rattle.std.proofs.lemmas.List.{length-map, get_or_default, length-take}
 use Rattle.std.proofs.lemmas.List.FromFn.{length-map-range_with_len}
-use Rattle.std.proofs.lemmas.List.Sums.{length-filter, count_by-le-length}
+use Rattle.std.proofs.lemmas.List.Elements.{All-head, All-tail}
+use Rattle.std.proofs.lemmas.List.Sums.{length-filter, count_by-le-length, sum_by-cons}
 use Rattle.pol_base.specs.declared.class_name.ClassName.{ClassName}
 use Rattle.pol_base.specs.declared.class_name.ClassName.TheVariants.{Constant, Semilattice, SetFunction, Majority, Nu4, Affine, Maltsev}
 use Rattle.pol_relation.specs.Relations.{LanguageView, IsLanguage, no_named, rows_of}
-use Rattle.pol_relation.specs.Instances.{InstanceView, constraint_of, no_constraint}
+use Rattle.pol_relation.specs.Instances.{InstanceView, IsSolution, constraint_of, no_constraint}
 use Rattle.pol_nogood.specs.Nogoods.{Pair}
 use Rattle.pol_nogood.specs.Logs.{Basis, StepView, step_at, no_step, cases_of, reading, is_case, value_case, FitsMost}
 use Rattle.pol_nogood.specs.ValidLogs.{CanRestOn, IsValidStep}
 use Rattle.pol_nogood.specs.Answers.{IsCertificate}
 use Rattle.pol_nogood.proofs.Counting.{few_steps_of_three}
+use Rattle.pol_modp.specs.Combinations.{PartView, CombinationView}
+use Rattle.pol_modp.specs.ValidCombinations.{IsPlaced}
+use Rattle.pol_affine.specs.Answers.{parts_at, IsSumCertificate}
 use Rattle.pol_optable.specs.Operations.{Operation}
 use Rattle.pol_optable.specs.ClassLines.{IsTable, IsSetTable, IsTableOf, Line, ClassLine}
 use Rattle.pol_optable.specs.ClassLines.Line.{Beyond, Sought}
 use Rattle.pol_solve.specs.declared.answering.InstanceAnswer.{InstanceAnswer}
 use Rattle.pol_solve.specs.declared.answering.InstanceAnswer.TheVariants as answer
-use Rattle.pol_solve.specs.Answers.{IsLogAnswer, AnswersBy}
+use Rattle.pol_solve.specs.Answers.{IsLogAnswer, IsSumAnswer, AnswersBy}
 use Rattle.pol_report.specs.declared.item.Item.{Item}
-use Rattle.pol_report.specs.Printable.{AreValues, IsShort, basis_number, IsPrintableStep, IsPrintableLog, HasPlainYes, HasLogs, IsPrintable}
+use Rattle.pol_report.specs.Printable.{AreValues, IsShort, basis_number, IsPrintableStep, IsPrintableLog, IsPrintablePart, IsPrintableCombination, HasPlainYes, HasLogs, IsPrintable}
 use Rattle.pol_lang.specs.Files.{IsFileLanguage, IsFileInstance}
 use Rattle.pol_cli.specs.Reports.{class_item, answer_item, IsClassItem, IsInstanceItem}
 
@@ -143,7 +148,120 @@ log_printable most lang inst log three is fits certificate =
           (small.small i no_step inside) (steps i inside));
     }
 
+-- ---- the parts of combinations
+
+counted : (c m : ℕ) → c < m → cond {A = ℕ} (nat_lt c m) 1 0 ≡ 1
+counted c m less = ap (λ b. cond {A = ℕ} b 1 0) (lt-ltb c m less)
+
+not_counted : (c m : ℕ) → m ≤ c → cond {A = ℕ} (nat_lt c m) 1 0 ≡ 0
+not_counted c m more = ap (λ b. cond {A = ℕ} b 1 0) (le-ltb c m more)
+
+-- a number is counted below the next where it is below this one, or this one
+below_next : (c m : ℕ) → cond (nat_lt c (suc m)) 1 0 ≤ cond (nat_lt c m) 1 0 + cond (c == m) 1 0
+below_next c m = elim (cases_lt c m) [
+  | inl less ↦ omega (arith, counted c m less, counted c (suc m) (omega (arith, less)))
+  | inr more ↦ elim (cases_lt c (suc m)) [
+    | inl last ↦ (let same : cond {A = ℕ} (c == m) 1 0 ≡ 1 = ap (λ b. cond {A = ℕ} b 1 0) (eq-eqb c m (omega (arith, more, last))) in
+        omega (arith, same, counted c (suc m) last))
+    | inr above ↦ omega (arith, not_counted c (suc m) above)
+  ]
+]
+
+-- how many parts are of the first constraints, so many of them
+abbrev parts_below : ℕ → List PartView → ℕ
+parts_below m parts = count_by (λ (part : PartView). nat_lt part.constraint m) parts
+
+none_below : (parts : List PartView) → parts_below 0 parts ≤ 0
+none_below [] = omega arith
+none_below (part ∷ parts) =
+    omega (arith, none_below parts, not_counted part.constraint 0 (omega arith), sum_by-cons (λ (p : PartView). cond (nat_lt p.constraint 0) 1 0) part parts)
+
+one_more : (m : ℕ) (parts : List PartView) → parts_below (suc m) parts ≤ parts_below m parts + parts_at m parts
+one_more m [] = omega arith
+one_more m (part ∷ parts) = omega (
+  arith,
+  one_more m parts,
+  below_next part.constraint m,
+  sum_by-cons (λ (p : PartView). cond (nat_lt p.constraint (suc m)) 1 0) part parts,
+  sum_by-cons (λ (p : PartView). cond (nat_lt p.constraint m) 1 0) part parts,
+  sum_by-cons (λ (p : PartView). cond (p.constraint == m) 1 0) part parts,
+)
+
+few_below : (m : ℕ) (parts : List PartView) → ((k : ℕ) → parts_at k parts ≤ 7) → parts_below m parts ≤ 7 * m
+few_below zero parts few = omega (arith, none_below parts)
+few_below (suc m) parts few = omega (arith, few_below m parts few, one_more m parts, few m)
+
+all_below : (m : ℕ) (parts : List PartView) → All (λ (p : PartView). p.constraint < m) parts → length parts ≤ parts_below m parts
+all_below m [] all = omega arith
+all_below m (part ∷ parts) all = omega (
+  arith,
+  all_below m parts (All-tail (λ (p : PartView). p.constraint < m) part parts all),
+  counted part.constraint m (All-head (λ (p : PartView). p.constraint < m) part parts all),
+  sum_by-cons (λ (p : PartView). cond (nat_lt p.constraint m) 1 0) part parts,
+)
+
+part_printable :
+    (lang : LanguageView) (inst : InstanceView) (part : PartView)
+    → IsFileLanguage lang
+    → IsFileInstance lang inst
+    → IsPlaced lang inst part
+    → IsPrintablePart part
+part_printable lang inst part is fits placed =
+    let at = constraint_of inst part.constraint in
+    let fit = fits.fits part.constraint no_constraint placed.known in
+    let over = is.is_language.relations_are at.relation no_named fit.known in
+    let small = is.is_language.domain_is.few in
+    record {
+      constraint = omega (arith, placed.known, fits.few_constraints);
+      multiplier = omega (arith, placed.multiplier_below, small);
+      right = omega (arith, placed.right_below, small);
+      coefs = record {
+        some = omega (arith, placed.as_many, over.is_relation.some_places);
+        few = omega (arith, placed.as_many, over.is_relation.few_places);
+        each = λ i none inside. omega (arith, placed.coefs_below i none inside, small);
+      };
+    }
+
+combination_printable :
+    (lang : LanguageView) (inst : InstanceView) (sum : CombinationView)
+    → IsFileLanguage lang
+    → IsFileInstance lang inst
+    → IsSumCertificate lang inst sum
+    → IsPrintableCombination sum
+combination_printable lang inst sum is fits certificate =
+    let valid = certificate.valid in
+    let domain = is.is_language.domain_is in
+    let m = length inst.constraints in
+    record {
+      labels = record {
+        some = omega (arith, valid.labels.many, domain.some);
+        few = omega (arith, valid.labels.many, domain.few);
+        each = λ i none inside. omega (arith, valid.labels.below i none inside, domain.few);
+      };
+      parts = record {
+        few = omega (
+          arith,
+          few_below m sum.parts certificate.few,
+          all_below m sum.parts (λ i none inside. (valid.placed i none inside).known),
+          fits.few_constraints,
+        );
+        each = λ i none inside. part_printable lang inst (get_or sum.parts i none) is fits (valid.placed i none inside);
+      };
+    }
+
 -- ---- the items of instances
+
+solution_values :
+    (lang : LanguageView) (inst : InstanceView) (values : List ℕ)
+    → IsFileLanguage lang
+    → IsFileInstance lang inst
+    → IsSolution lang inst values
+    → AreValues 40 values
+solution_values lang inst values is fits solution = record {
+  some = omega (arith, solution.assigns.long, fits.some_variables);
+  few = omega (arith, solution.assigns.long, fits.few_variables);
+  each = λ i none inside. omega (arith, solution.assigns.below i none inside, is.is_language.domain_is.few);
+}
 
 answer_printable :
     (class : ClassName) (most : ℕ) (lang : LanguageView) (inst : InstanceView) (given : InstanceAnswer)
@@ -157,18 +275,33 @@ answer_printable :
 answer_printable class most lang inst (answer.Yes values) three plain logs is fits owed = record {
   named = fits.name_is;
   plain = plain;
-  solution = record {
-    some = omega (arith, owed.assigns.long, fits.some_variables);
-    few = omega (arith, owed.assigns.long, fits.few_variables);
-    each = λ i none inside. omega (arith, owed.assigns.below i none inside, is.is_language.domain_is.few);
-  };
+  solution = solution_values lang inst values is fits owed;
 }
 answer_printable class most lang inst (answer.NoLog log) three plain logs is fits owed = record {
   named = fits.name_is;
   has_logs = logs;
   steps = log_printable most lang inst log three is fits owed.1;
 }
+answer_printable class most lang inst (answer.NoSum combination) three plain logs is fits owed = absurd owed
 answer_printable class most lang inst answer.Undecided three plain logs is fits owed = absurd owed
+
+sum_printable :
+    (lang : LanguageView) (inst : InstanceView) (given : InstanceAnswer)
+    → IsFileLanguage lang
+    → IsFileInstance lang inst
+    → IsSumAnswer lang inst given
+    → IsPrintable (answer_item inst.name (Some Affine) given)
+sum_printable lang inst (answer.Yes values) is fits owed = record {
+  named = fits.name_is;
+  plain = tt;
+  solution = solution_values lang inst values is fits owed;
+}
+sum_printable lang inst (answer.NoLog log) is fits owed = absurd owed
+sum_printable lang inst (answer.NoSum combination) is fits owed = record {
+  named = fits.name_is;
+  combination = combination_printable lang inst combination is fits owed.1;
+}
+sum_printable lang inst answer.Undecided is fits owed = absurd owed
 
 -- what has no solver is undecided
 undecided_printable : (chosen : Option ClassName) (lang : LanguageView) (inst : InstanceView) (given : InstanceAnswer) → IsFileInstance lang inst → given ≡ answer.Undecided → IsPrintable (answer_item inst.name chosen given)
@@ -188,7 +321,7 @@ owed_printable (Some Semilattice) lang inst given is fits owed = answer_printabl
 owed_printable (Some SetFunction) lang inst given is fits owed = answer_printable SetFunction 1 lang inst given (omega arith) tt tt is fits owed
 owed_printable (Some Majority) lang inst given is fits owed = answer_printable Majority 2 lang inst given (omega arith) tt tt is fits owed
 owed_printable (Some Nu4) lang inst given is fits owed = answer_printable Nu4 3 lang inst given (omega arith) tt tt is fits owed
-owed_printable (Some Affine) lang inst given is fits owed = undecided_printable (Some Affine) lang inst given fits owed
+owed_printable (Some Affine) lang inst given is fits owed = sum_printable lang inst given is fits owed
 owed_printable (Some Maltsev) lang inst given is fits owed = undecided_printable (Some Maltsev) lang inst given fits owed
 
 pub instance_printable : (lang : LanguageView) (inst : InstanceView) (told : Item) → IsFileLanguage lang → IsFileInstance lang inst → IsInstanceItem lang inst told → IsPrintable told

@@ -77,7 +77,7 @@ LogsRefute =
     → HasNoSolution lang inst
     → IsInstanceItem lang inst told
     → (log : List StepView) × IsCertificate most lang inst log × AreReferredTo log
-        × (told ≡ item.NoLog inst.name class log)
+    × (told ≡ item.NoLog inst.name class log)
 
 -- and of the class `affine` a No with a combination
 abbrev pub CombinationsRefute : Type 0
@@ -87,7 +87,7 @@ CombinationsRefute =
     → HasNoSolution lang inst
     → IsInstanceItem lang inst told
     → (combination : CombinationView) × IsSumCertificate lang inst combination
-        × (told ≡ item.NoSum inst.name combination)
+    × (told ≡ item.NoSum inst.name combination)
 
 -- where the chosen class has none, or no class is chosen, an instance is undecided
 abbrev pub OthersAreUndecided : Type 0

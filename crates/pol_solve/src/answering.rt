@@ -11,9 +11,9 @@ ghost use Rattle.pol_solve.specs.Answers.{IsLogAnswer, IsSumAnswer, AnswersByFir
 
 use crate::choosing::chosen_solution;
 use crate::solve_constant;
+use pol_affine::{SumAnswer, solve_affine};
 use pol_arc::{Consistency, arc, solve_width_one};
 use pol_base::{ClassName, NoMemory, Values};
-use pol_affine::{SumAnswer, solve_affine};
 use pol_modp::Combination;
 use pol_nogood::{Log, LogAnswer, trimmed};
 use pol_optable::{Classes, Nu4, OpTable};

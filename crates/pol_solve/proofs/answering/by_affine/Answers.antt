@@ -1,4 +1,4 @@
-use Rattle.std.proofs.Common.{◌≡◌, Some, option_map, subst}
+use Rattle.std.proofs.Common.{option_map, subst}
 use Rattle.pol_base.specs.declared.class_name.ClassName.TheVariants.{Affine}
 use Rattle.pol_optable.specs.Identities.{IsAffine}
 use Rattle.pol_optable.specs.ClassLines.Line.{Sought}
