@@ -1,6 +1,6 @@
 ghost use Rattle.std.specs.Prelude.{◌≡◌, length};
 ghost use Rattle.pol_relation.specs.Instances.{Fits};
-ghost use Rattle.pol_optable.specs.Choices.{AreTables};
+ghost use Rattle.pol_optable.specs.Choices.{AreLines};
 
 use crate::harness::lines;
 use pol_base::{ClassName, Domain, NoMemory, cells, digit};
@@ -176,7 +176,7 @@ fn is_answered(
 ) -> Result<bool, NoMemory>
     requires fits { Fits lang.now inst.now }
     requires three { length inst.now.variables ≡ 3 }
-    requires tables { AreTables lang.now classes.now }
+    requires lines { AreLines lang.now classes.now }
 {
     Ok(match answer(alloc, lang, inst, classes)? {
         InstanceAnswer::Yes(values) => is_solution(lang, inst, values.as_slice()),
