@@ -1,4 +1,5 @@
-//! Arc consistency of instances with its log, and instances of languages with a set function.
+//! Arc consistency of instances, with its log, and the solver of languages that a set function
+//! preserves.
 #![tactic(auto)]
 
 mod consistency;

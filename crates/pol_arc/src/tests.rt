@@ -20,7 +20,9 @@ type On = (u32, &'static [u32]);
 type Written = (u32, &'static [Rows], u32, &'static [On]);
 
 const LESS: Rows = (2, &[0, 1, 0, 2, 1, 2]);
+
 const UNEQUAL: Rows = (2, &[0, 1, 1, 0]);
+
 const IMPLIES: Rows = (2, &[0, 0, 0, 1, 1, 1]);
 
 /// Instances, and the values that have supports in them.
@@ -54,14 +56,8 @@ static LEFT: [(Written, &'static [u8]); 14] = [
     ),
     // a value that is gone takes away the supports of others
     ((3, &[LESS], 2, &[(0, &[0, 1])]), &[3, 6]),
-    (
-        (3, &[LESS], 3, &[(0, &[0, 1]), (0, &[1, 2])]),
-        &[1, 2, 4],
-    ),
-    (
-        (3, &[LESS], 3, &[(0, &[1, 2]), (0, &[0, 1])]),
-        &[1, 2, 4],
-    ),
+    ((3, &[LESS], 3, &[(0, &[0, 1]), (0, &[1, 2])]), &[1, 2, 4]),
+    ((3, &[LESS], 3, &[(0, &[1, 2]), (0, &[0, 1])]), &[1, 2, 4]),
     (
         (
             3,
@@ -106,6 +102,40 @@ static WIPED: [Written; 6] = [
         &[(0, &[0, 0, 0, 0, 0, 0])],
     ),
 ];
+
+/// Instances, set functions that preserve their relations, and the solutions that these give.
+static SOLVED: [(Written, &'static [u8], &'static [u8]); 3] = [
+    // the least value of a set
+    (
+        (3, &[LESS], 3, &[(0, &[1, 2])]),
+        &[0, 1, 0, 2, 0, 1, 0],
+        &[0, 0, 1],
+    ),
+    // the greatest value of a set
+    (
+        (3, &[LESS], 3, &[(0, &[1, 2])]),
+        &[0, 1, 1, 2, 2, 2, 2],
+        &[2, 1, 2],
+    ),
+    (
+        (2, &[(2, &[0, 1, 1, 0, 1, 1])], 2, &[(0, &[0, 1])]),
+        &[0, 1, 1],
+        &[1, 1],
+    ),
+];
+
+static UNSOLVED: [Written; 2] = [
+    (3, &[LESS], 2, &[(0, &[0, 1]), (0, &[1, 0])]),
+    (3, &[LESS], 4, &[(0, &[0, 1]), (0, &[1, 2]), (0, &[2, 3])]),
+];
+
+fn solved() -> &'static [(Written, &'static [u8], &'static [u8])] {
+    &SOLVED
+}
+
+fn unsolved() -> &'static [Written] {
+    &UNSOLVED
+}
 
 fn left() -> &'static [(Written, &'static [u8])] {
     &LEFT
@@ -154,39 +184,57 @@ fn goes_through_forty_variables(rt: HostRuntime) -> Result<(), Fail> {
 
 #[test]
 fn a_set_function_gives_the_values_of_a_solution(rt: HostRuntime) -> Result<(), Fail> {
-    let alloc = rt.alloc();
-    let language = language(&rt, alloc, 3, &[LESS])?;
-    let chain = instance(&rt, alloc, 3, &[(0, &[1, 2])])?;
-    let broken = instance(&rt, alloc, 2, &[(0, &[0, 1]), (0, &[1, 0])])?;
-    let d = language.domain();
-    let functions: [(&[u8], [u8; 3]); 2] = [
-        (&[0, 1, 0, 2, 0, 1, 0], [0, 0, 1]),
-        (&[0, 1, 1, 2, 2, 2, 2], [2, 1, 2]),
-    ];
-    for (cells, values) in functions {
-        let g = SetFn::from_cells(alloc, d, cells)?.ok_or("a set function")?;
-        assert!(rt; g.domain() == language.domain());
-        assert!(rt; preserves(&g, &language));
-        assert!(rt; chain.fits(&language) && broken.fits(&language));
-        assert!(rt; chain.variables() <= 40 && broken.variables() <= 40);
-        let LogAnswer::Yes(found) = solve_width_one(alloc, &language, &chain, &g)? else {
-            return Err("no solution".into());
-        };
-        assert_eq!(rt; found.as_slice(), values.as_slice());
-        let LogAnswer::No(log) = solve_width_one(alloc, &language, &broken, &g)? else {
-            return Err("a solution".into());
-        };
-        assert_eq!(rt; check_log(&language, &broken, &log), Ok(()));
+    for (written, cells, values) in solved() {
+        let found = solution(&rt, rt.alloc(), written, cells)?.ok_or("a solution")?;
+        assert_eq!(rt; found.as_slice(), *values, "by {cells:?}");
     }
     Ok(())
 }
 
-/// The masks of the instance. None where some variable has no value left, and the log shows it.
-fn consistency(
+#[test]
+fn without_a_solution_there_is_a_log(rt: HostRuntime) -> Result<(), Fail> {
+    for written in unsolved() {
+        assert!(rt; solution(&rt, rt.alloc(), written, &[0, 1, 0, 2, 0, 1, 0])?.is_none());
+    }
+    Ok(())
+}
+
+/// The solution by the set function with these cells. None where there is none, and the log shows it.
+fn solution(
     rt: &impl Abort,
     alloc: Global,
     written: &Written,
+    cells: &[u8],
 ) -> Result<Option<Values>, Fail> {
+    let (size, relations, variables, constraints) = written;
+    let language = language(rt, alloc, *size, relations)?;
+    let instance = instance(rt, alloc, *variables, constraints)?;
+    solved_by(rt, alloc, &language, &instance, cells)
+}
+
+fn solved_by(
+    rt: &impl Abort,
+    alloc: Global,
+    language: &Language,
+    instance: &Instance,
+    cells: &[u8],
+) -> Result<Option<Values>, Fail> {
+    let g = SetFn::from_cells(alloc, language.domain(), cells)?.ok_or("a set function")?;
+    assert!(rt; g.domain() == language.domain());
+    assert!(rt; preserves(&g, language));
+    assert!(rt; instance.fits(language));
+    assert!(rt; instance.variables() <= 40);
+    match solve_width_one(alloc, language, instance, &g)? {
+        LogAnswer::Yes(values) => Ok(Some(values)),
+        LogAnswer::No(log) => {
+            assert_eq!(rt; check_log(language, instance, &log), Ok(()));
+            Ok(None)
+        }
+    }
+}
+
+/// The masks of the instance. None where some variable has no value left, and the log shows it.
+fn consistency(rt: &impl Abort, alloc: Global, written: &Written) -> Result<Option<Values>, Fail> {
     let (size, relations, variables, constraints) = written;
     let language = language(rt, alloc, *size, relations)?;
     let instance = instance(rt, alloc, *variables, constraints)?;
@@ -247,12 +295,7 @@ fn instance(
     Ok(instance)
 }
 
-fn add(
-    rt: &impl Abort,
-    instance: &mut Instance,
-    relation: u32,
-    scope: &[u32],
-) -> Result<(), Fail> {
+fn add(rt: &impl Abort, instance: &mut Instance, relation: u32, scope: &[u32]) -> Result<(), Fail> {
     let variables = instance.variables();
     assert!(rt; 1 <= scope.len() && scope.len() <= 6);
     assert!(rt; scope.iter().all(|x| *x < variables));

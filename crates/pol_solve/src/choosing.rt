@@ -87,12 +87,7 @@ fn touches(scope: &[u32], variables: u64) -> bool
 }
 
 /// Goes over the constraints of variables that lost a value. Which variables lose one then, as bits.
-fn pass(
-    lang: &Language,
-    inst: &Instance,
-    masks: &mut [u8; MOST_VARIABLES],
-    changed: u64,
-) -> u64
+fn pass(lang: &Language, inst: &Instance, masks: &mut [u8; MOST_VARIABLES], changed: u64) -> u64
     requires fits { Fits lang.now inst.now }
     requires few_variables { length inst.now.variables ≤ 40 }
 {
@@ -192,11 +187,7 @@ fn first_masks(masks: &[u8]) -> [u8; MOST_VARIABLES]
 }
 
 /// The least value of each of the first masks.
-fn least_values(
-    alloc: Global,
-    masks: &[u8; MOST_VARIABLES],
-    count: u32,
-) -> Result<Values, NoMemory>
+fn least_values(alloc: Global, masks: &[u8; MOST_VARIABLES], count: u32) -> Result<Values, NoMemory>
     requires few { count ≤ 40 }
     ensures long { IfOk result (λ values. length values ≡ count) }
 {

@@ -1,4 +1,4 @@
--- A set of tuples that a near unanimity operation preserves is determined by what it is at fewer places than the
+-- A set of tuples that a near-unanimity operation preserves is determined by what it is at fewer places than the
 -- operation has arguments (Baker and Pixley).
 use Rattle.std.proofs.Common.{◌≡◌, ℕ, suc, zero, ◌+◌, ◌-◌, ◌<◌, ◌≤◌, List, [], length, All, arith, get_or, inl, inr, sym, ◌∙◌, ◌⊎◌, subst}
 use Rattle.std.specs.Prelude.{◌≢◌, remove}

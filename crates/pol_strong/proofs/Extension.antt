@@ -1,4 +1,4 @@
--- A family of parts that a near unanimity operation preserves, and in which the small parts extend: all parts do.
+-- A family of parts that a near-unanimity operation preserves, and in which the small parts extend: all parts do.
 use Rattle.std.proofs.Common.{◌≡◌, ℕ, suc, zero, ◌+◌, ◌<◌, ◌≤◌, List, [], ◌∷◌, length, arith, ap, get_or, set, inl, inr, refl, sym, ◌∙◌, ◌⊎◌, subst}
 use Rattle.std.specs.Prelude.{◌≢◌, Contains, remove, AllPairs}
 use Rattle.std.proofs.lemmas.Bool.{cases_lt}

@@ -1,4 +1,4 @@
--- From a family that extends and breaks no constraint to a solution, where a near unanimity operation preserves it.
+-- From a family that extends and breaks no constraint to a solution, where a near-unanimity operation preserves it.
 use Rattle.std.proofs.Common.{◌≡◌, ℕ, suc, zero, ◌+◌, ◌<◌, ◌≤◌, List, [], ◌∷◌, length, All, arith, get_or, set, replicate, refl, sym, ◌∙◌, subst}
 use Rattle.std.specs.Prelude.{◌≢◌, Contains, map}
 use Rattle.std.proofs.lemmas.List.{get_or-map, length-map, length-replicate}

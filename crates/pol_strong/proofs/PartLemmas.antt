@@ -1,5 +1,5 @@
 -- Parts of a nogood with a further pair, each of which is looked up.
-use Rattle.std.proofs.Common.{◌≡◌, ◌≢◌, ℕ, suc, zero, ◌+◌, ◌-◌, ◌<◌, ◌≤◌, ◌⊎◌, inl, inr, List, [], ◌∷◌, ◌++◌, length, get_or, All, AllPairs, Contains, Option, Some, None, refl, sym, ap, ◌∙◌, subst, arith}
+use Rattle.std.proofs.Common.{◌≡◌, ◌≢◌, ℕ, ◌+◌, ◌<◌, ◌≤◌, ◌⊎◌, inl, inr, List, [], ◌∷◌, ◌++◌, length, get_or, All, Contains, Option, Some, None, refl, sym, ap, ◌∙◌, subst, arith}
 use Rattle.std.specs.Prelude.{IfNone}
 use Rattle.std.specs.List.{remove}
 use Rattle.std.proofs.lemmas.Bool.{cases_eq, cases_lt}
@@ -7,10 +7,10 @@ use Rattle.std.proofs.lemmas.List.{get_or_default, get_or_push, length_push}
 use Rattle.std.proofs.lemmas.List.Edits.{length-remove}
 use Rattle.std.proofs.lemmas.List.Elements.{All-nil, All-cons, All-contains, Contains-get_or, Contains-append_left, Contains-append_right, Contains-append_cases}
 use Rattle.std.proofs.lemmas.List.Kept.{AllPairs-cons}
-use Rattle.pol_base.proofs.MemberLemmas.{Contains-here, AllPairs-nil}
+use Rattle.pol_base.proofs.MemberLemmas.{AllPairs-nil}
 use Rattle.pol_nogood.specs.Nogoods.{Pair, IsPair, IsNogood, IsContained}
 use Rattle.pol_nogood.specs.Logs.{StepView, no_step, value_case, nogood_at}
-use Rattle.pol_nogood.proofs.LogMaking.{IsContained-itself, IsContained-none, IsContained-one}
+use Rattle.pol_nogood.proofs.LogMaking.{IsContained-itself, IsContained-one}
 use Rattle.pol_strong.specs.Contradictions.{IsContradicted}
 use Rattle.pol_strong.specs.Finished.{IsSmall}
 use Rattle.pol_strong.specs.Stores.{pair_of}

@@ -1,10 +1,10 @@
 -- Numbers of nogoods: they are different, and small.
-use Rattle.std.proofs.Common.{◌≡◌, ◌≢◌, ℕ, zero, suc, ◌+◌, ◌-◌, ◌*◌, ◌^◌, ◌<◌, ◌≤◌, ◌⊎◌, inl, inr, List, [], ◌∷◌, ◌++◌, length, map, get_or, take, drop, replicate, All, Some, slice_get, refl, sym, ap, ◌∙◌, subst, arith, length-append}
+use Rattle.std.proofs.Common.{◌≡◌, ℕ, zero, suc, ◌+◌, ◌-◌, ◌*◌, ◌^◌, ◌<◌, ◌≤◌, ◌⊎◌, inl, inr, List, [], ◌∷◌, ◌++◌, length, map, get_or, take, drop, replicate, All, Some, slice_get, refl, sym, ap, ◌∙◌, subst, arith, length-append}
 use Rattle.std.proofs.Math.Nat.{mul-le-mul, mul-le-mul_right, pow-le-pow_left}
 use Rattle.std.proofs.lemmas.Bool.{cases_eq, cases_lt}
 use Rattle.std.proofs.lemmas.Option.{get_or_from_slice_get, slice_get_within}
-use Rattle.std.proofs.lemmas.List.{length-map, length-replicate, length-take, take_more, take_all, map_push, drop_more}
-use Rattle.std.proofs.lemmas.List.Elements.{All-nil, All-cons, All-head, All-tail, All-map, All-append, All-replicate, All-take}
+use Rattle.std.proofs.lemmas.List.{length-map, length-replicate, length-take, take_more, map_push}
+use Rattle.std.proofs.lemmas.List.Elements.{All-head, All-tail, All-map, All-append, All-replicate, All-take}
 use Rattle.pol_base.specs.Tuples.{cell_of}
 use Rattle.pol_nogood.specs.Nogoods.{Pair, IsPair, IsNogood}
 use Rattle.pol_base.proofs.CellLemmas.{cell_of-below, cell_of-push, same_from_cell_of, power_monotone}

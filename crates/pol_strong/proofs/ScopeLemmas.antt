@@ -1,14 +1,14 @@
 -- Places of a scope, and which rows are cases of a nogood on it.
-use Rattle.std.proofs.Common.{◌≡◌, ◌≢◌, ℕ, suc, zero, ◌+◌, ◌<◌, ◌≤◌, ◌⊎◌, inl, inr, Bool, true, false, eqb, cond, List, [], ◌∷◌, ◌++◌, length, get_or, All, Contains, refl, sym, ap, ◌∙◌, subst, arith}
+use Rattle.std.proofs.Common.{◌≡◌, ℕ, suc, zero, ◌+◌, ◌<◌, ◌⊎◌, inl, inr, true, false, eqb, List, [], ◌∷◌, ◌++◌, length, get_or, All, Contains, sym, ap, ◌∙◌, subst, arith}
 use Rattle.std.proofs.lemmas.Bool.{cond-true, cond-false, cases_eq, eq-eqb, ne_eqb, both_ways, false_from_ne_true}
 use Rattle.std.proofs.lemmas.List.{get_or_default}
 use Rattle.std.proofs.lemmas.List.Elements.{All-nil, All-cons, All-append, All-contains, Contains-get_or, Contains-append_left, Contains-append_right}
-use Rattle.pol_base.proofs.MemberLemmas.{Contains-here, Contains-there, Contains-cons_cases, Contains-nil}
+use Rattle.pol_base.proofs.MemberLemmas.{Contains-here}
 use Rattle.pol_relation.specs.Relations.{LanguageView, RelationView, IsRelation, relation_of, rows_of}
 use Rattle.pol_relation.specs.Instances.{InstanceView, ConstraintView, Fits, constraint_of, no_constraint}
 use Rattle.pol_nogood.specs.Nogoods.{Pair}
 use Rattle.pol_nogood.specs.Logs.{is_case, value_case}
-use Rattle.pol_nogood.proofs.LogCases.{IsCaseByPlace, places_from_case, case_from_places, excluded_by_repeat}
+use Rattle.pol_nogood.proofs.LogCases.{IsCaseByPlace, places_from_case, case_from_places}
 use Rattle.pol_strong.specs.Contradictions.{HasCase}
 use Rattle.pol_strong.specs.Covers.{first_place, row_at, AreCases, HasRow}
 

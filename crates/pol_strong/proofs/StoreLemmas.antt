@@ -1,17 +1,17 @@
 -- What a store keeps.
-use Rattle.std.proofs.Common.{◌≡◌, ◌≢◌, ℕ, suc, zero, ◌+◌, ◌-◌, ◌*◌, ◌^◌, ◌<◌, ◌≤◌, ◌⊎◌, inl, inr, List, [], ◌∷◌, ◌++◌, length, get_or, set, take, drop, All, AllPairs, refl, sym, ap, ◌∙◌, subst, arith, length-set, length-append}
+use Rattle.std.proofs.Common.{◌≡◌, ◌≢◌, ℕ, suc, zero, ◌+◌, ◌-◌, ◌*◌, ◌^◌, ◌<◌, ◌≤◌, ◌⊎◌, inl, inr, List, [], ◌∷◌, ◌++◌, length, get_or, set, take, drop, All, refl, sym, ap, ◌∙◌, subst, arith, length-set}
 use Rattle.std.specs.Prelude.{IsBitSet}
 use Rattle.std.specs.List.{remove}
 use Rattle.std.proofs.lemmas.Bool.{cases_eq}
 use Rattle.std.proofs.lemmas.List.{length_push, get_or-set_same, get_or-set_other, get_or_default}
 use Rattle.std.proofs.lemmas.List.Edits.{length-remove}
-use Rattle.std.proofs.lemmas.List.Elements.{All-nil, All-append, All-take, All-drop, All-push, All-weaker}
+use Rattle.std.proofs.lemmas.List.Elements.{All-append, All-take, All-drop, All-push, All-weaker}
 use Rattle.std.proofs.lemmas.List.Quantifiers.{all_pairs_remove}
 use Rattle.pol_nogood.specs.Nogoods.{Pair, IsPair, IsNogood}
 use Rattle.pol_nogood.specs.Logs.{StepView, nogood_at, no_step}
 use Rattle.pol_nogood.proofs.LogMaking.{nogood_at-append, nogood_at-push}
 use Rattle.pol_strong.specs.Ranks.{rank_of}
-use Rattle.pol_strong.specs.Stores.{pair_of, IsIndex, IsCleared, IsFilter, IsStore, Clears, mask_place}
+use Rattle.pol_strong.specs.Stores.{pair_of, IsIndex, IsCleared, IsStore, Clears, mask_place}
 use Rattle.pol_strong.specs.Finished.{IsSmall}
 use Rattle.pol_strong.proofs.RankLemmas.{rank_inside, rank_same}
 

@@ -1,21 +1,22 @@
 -- Deletions one after another, and what a sweep leaves.
-use Rattle.std.proofs.Common.{◌≡◌, ◌≢◌, ℕ, suc, zero, ◌+◌, ◌-◌, ◌<◌, ◌≤◌, ◌⊎◌, inl, inr, List, [], ◌∷◌, ◌++◌, length, get_or, All, refl, sym, ap, ◌∙◌, subst, arith, append-nil, length-append}
+use Rattle.std.proofs.Common.{◌≡◌, ◌≢◌, ℕ, suc, ◌+◌, ◌-◌, ◌<◌, ◌≤◌, ◌⊎◌, inl, inr, List, [], ◌∷◌, ◌++◌, length, get_or, All, refl, sym, ap, ◌∙◌, subst, arith, append-nil, length-append}
 use Rattle.std.specs.Prelude.{⊤, Result, Ok, Err, OnOk}
 use Rattle.std.proofs.lemmas.Bool.{cases_eq, cases_lt}
 use Rattle.std.proofs.lemmas.List.{length_push, append_assoc, get_or-append_right}
-use Rattle.std.proofs.lemmas.List.Elements.{All-head, All-tail, All-push, All-weaker, All-contains, Contains-append_left, Contains-append_right}
+use Rattle.std.proofs.lemmas.List.Elements.{All-head, All-push, All-contains, Contains-append_right}
 use Rattle.pol_relation.specs.Relations.{LanguageView}
 use Rattle.pol_relation.specs.Instances.{InstanceView}
 use Rattle.pol_nogood.specs.Nogoods.{Pair, IsPair, IsNogood, IsContained}
-use Rattle.pol_nogood.specs.Logs.{Basis, StepView, value_case, nogood_at, FitsMost, no_step, value_cases}
-use Rattle.pol_nogood.specs.ValidLogs.{HasReferences, IsValidStep}
+use Rattle.pol_nogood.specs.Logs.{Basis, StepView, value_case, nogood_at, value_cases}
+use Rattle.pol_nogood.specs.ValidLogs.{HasReferences}
 use Rattle.pol_nogood.proofs.LogMaking.{nogood_at-append, variable_step_of, IsContained-left, IsContained-itself, valid_push, variable_step, FitsMost-push}
 use Rattle.pol_nogood.proofs.Counting.{nogood_count, few_steps, count_more, three_pairs}
-use Rattle.pol_strong.specs.Finished.{RefersByVariable, AllOpen}
+use Rattle.pol_strong.specs.Finished.{IsSmall, RefersByVariable, AllOpen}
 use Rattle.pol_strong.specs.Contradictions.{IsContradicted}
-use Rattle.pol_strong.specs.Finished.{RefersByVariable, AllOpen}
+use Rattle.pol_strong.specs.Finished.{IsSmall, RefersByVariable, AllOpen}
 use Rattle.pol_strong.specs.Contradictions.{AreOpen}
 use Rattle.pol_strong.specs.Sweeps.{AreBeside, IsDeleting, Deletes, AllOpenFrom, OpenWith, OpenBefore, OpenBelow, OpenHere}
+use Rattle.pol_strong.proofs.OpenLemmas.{open_from_mask}
 use Rattle.pol_strong.specs.Stores.{StoreView, with_step}
 
 -- a step by a variable is not one by a constraint
@@ -160,3 +161,12 @@ fewer_left lang inst Settled old new is other =
 
         before : a < b → m - b < k - a
         before less = omega arith
+
+-- a front behind which no pair may follow, where each variable has a value in its mask
+pub open_full : (n d size : ℕ) (log : List StepView) (front : List Pair) (x a most : ℕ) (masks : List ℕ) → All (λ t. IsSmall n d size t.nogood) log → n ≤ length masks → most ≤ 1 → All (λ m. m ≢ 0) masks → AreBeside d log (front ++ value_case x a) masks → OpenWith n d front x a most log
+open_full n d size log front x a most masks small long last full beside [] nogood some from few free =
+    let longer : List Pair = front ++ value_case x a in
+    let same : longer ++ [] ≡ longer = append-nil longer in
+    subst (AreOpen n d log) (sym same)
+    (λ v known apart. open_from_mask n d size v log longer masks small (omega arith) (full v 0 (omega arith)) apart beside (λ found. free (subst (IsContradicted log) (sym same) found)))
+open_full n d size log front x a most masks small long last full beside (p ∷ more) nogood some from few free = absurd (omega arith)

@@ -1,5 +1,6 @@
 -- What goes on from a front within the scope of a constraint, and the rows of its relation that are cases.
-use Rattle.std.specs.Prelude.{◌≡◌, ◌==◌, ℕ, ◌+◌, ◌-◌, ◌<◌, ◌≤◌, zero, suc, true, List, [], ◌∷◌, ◌++◌, length, slice_index, slice_index_or, All, Contains, if◌then◌else◌}
+use Rattle.std.specs.Prelude.{◌≡◌, ◌==◌, ℕ, ◌+◌, ◌-◌, ◌<◌, ◌≤◌, suc, true, List, [], ◌∷◌, ◌++◌, length}
+use Rattle.std.specs.Prelude.{slice_index, slice_index_or, All, Contains, if◌then◌else◌}
 use Rattle.pol_relation.specs.Relations.{LanguageView, rows_of}
 use Rattle.pol_relation.specs.Instances.{InstanceView, ConstraintView}
 use Rattle.pol_nogood.specs.Nogoods.{Pair, IsNogood}
@@ -29,9 +30,10 @@ pub record HasRow (rows : List (List ℕ)) (numbers : List ℕ) (place a : ℕ) 
   pub listed : Contains numbers number
   pub value : slice_index (row_at rows number) place ≡ a
 
--- all that goes on from the front, by at most so many pairs of variables of the scope from low on, contains a deleted
--- nogood or has a case of the constraint
-abbrev pub CoversFrom : LanguageView → InstanceView → ConstraintView → (front : List Pair) → (low most : ℕ) → List StepView → Type 0
+-- all that goes on from the front, by at most so many pairs of variables of the scope from low on, contains a
+-- deleted nogood or has a case of the constraint
+abbrev pub CoversFrom : LanguageView → InstanceView → ConstraintView
+    → (front : List Pair) → (low most : ℕ) → List StepView → Type 0
 CoversFrom lang inst c front low most log =
     (more : List Pair)
     → IsNogood (length inst.variables) lang.domain (front ++ more)
@@ -42,26 +44,31 @@ CoversFrom lang inst c front low most log =
     → HasCase lang c (front ++ more)
 
 -- the same for what goes on with this variable and value
-abbrev pub CoversWith : LanguageView → InstanceView → ConstraintView → (front : List Pair) → (x a most : ℕ) → List StepView → Type 0
+abbrev pub CoversWith : LanguageView → InstanceView → ConstraintView
+    → (front : List Pair) → (x a most : ℕ) → List StepView → Type 0
 CoversWith lang inst c front x a most log = CoversFrom lang inst c (front ++ value_case x a) (x + 1) (most - 1) log
 
 -- the same for all variables of the scope from low on and below x, with any value
-abbrev pub CoversBefore : LanguageView → InstanceView → ConstraintView → (front : List Pair) → (low x most : ℕ) → List StepView → Type 0
+abbrev pub CoversBefore : LanguageView → InstanceView → ConstraintView
+    → (front : List Pair) → (low x most : ℕ) → List StepView → Type 0
 CoversBefore lang inst c front low x most log =
     (y a : ℕ) → low ≤ y → y < x → Contains c.scope y → a < lang.domain → CoversWith lang inst c front y a most log
 
 -- the same for the first values of a variable
-abbrev pub CoversBelow : LanguageView → InstanceView → ConstraintView → (front : List Pair) → (x a most : ℕ) → List StepView → Type 0
+abbrev pub CoversBelow : LanguageView → InstanceView → ConstraintView
+    → (front : List Pair) → (x a most : ℕ) → List StepView → Type 0
 CoversBelow lang inst c front x a most log = (b : ℕ) → b < a → CoversWith lang inst c front x b most log
 
 -- rows that are cases of the front joined with the pair, behind which a further pair may stand
-pub record GoesOn (lang : LanguageView) (c : ConstraintView) (front : List Pair) (x a most : ℕ) (rows : List ℕ) : Type 0 where
+pub record GoesOn (lang : LanguageView) (c : ConstraintView) (front : List Pair) (x a most : ℕ)
+    (rows : List ℕ) : Type 0 where
   pub more : 2 ≤ most
   pub cases : AreCases (rows_of lang c.relation) c.scope (front ++ value_case x a) rows
   pub case : HasCase lang c (front ++ value_case x a)
 
 -- there are more steps or as many, and this holds of the log
-pub record Adds (lang : LanguageView) (inst : InstanceView) (Covered : List StepView → Type 0) (old new : StoreView) : Type 0 where
+pub record Adds (lang : LanguageView) (inst : InstanceView) (Covered : List StepView → Type 0)
+    (old new : StoreView) : Type 0 where
   pub deleting : IsDeleting lang inst new
   pub most : new.most ≡ old.most
   pub kept : (nogood : List Pair) → IsContradicted old.log nogood → IsContradicted new.log nogood

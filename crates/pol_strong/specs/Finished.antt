@@ -9,7 +9,7 @@ use Rattle.pol_nogood.specs.Logs.{Basis, StepView, value_case, FitsMost}
 use Rattle.pol_nogood.specs.ValidLogs.{AreValid}
 use Rattle.pol_strong.specs.Contradictions.{IsContradicted, AreOpen, HasCase}
 
--- a near unanimity operation of one argument more than that, which preserves each relation of the language
+-- a near-unanimity operation of one argument more than that, which preserves each relation of the language
 pub record IsNearUnanimityFor (lang : LanguageView) (most : ℕ) (f : Operation) : Type 0 where
   pub domain_is : f.domain ≡ lang.domain
   pub arity_is : f.arity ≡ most + 1
@@ -49,7 +49,7 @@ pub record IsFinished (lang : LanguageView) (inst : InstanceView) (most : ℕ) (
   pub nonempty : All (λ s. s.nogood ≢ []) log
   pub settled : AllSettled lang inst most log
 
--- the log is finished for a near unanimity operation that preserves the language
+-- the log is finished for a near-unanimity operation that preserves the language
 pub record IsDecided (lang : LanguageView) (inst : InstanceView) (log : List StepView) : Type 0 where
   pub most : ℕ
   pub operation : Operation

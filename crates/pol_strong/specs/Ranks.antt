@@ -1,5 +1,5 @@
 -- Numbers of nogoods.
-use Rattle.std.specs.Prelude.{◌≡◌, ℕ, ◌+◌, ◌*◌, ◌<◌, List, map}
+use Rattle.std.specs.Prelude.{ℕ, ◌+◌, ◌*◌, List, map}
 use Rattle.pol_base.specs.Tuples.{cell_of}
 use Rattle.pol_nogood.specs.Nogoods.{Pair}
 

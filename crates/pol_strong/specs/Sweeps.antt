@@ -1,10 +1,11 @@
 -- What is deleted, and when nothing is left to delete.
-use Rattle.std.specs.Prelude.{◌≡◌, ◌≢◌, ℕ, ◌+◌, ◌-◌, ◌<◌, ◌≤◌, ◌^◌, List, [], ◌∷◌, ◌++◌, length, slice_index, All, IsBitSet}
+use Rattle.std.specs.Prelude.{◌≡◌, ◌≢◌, ℕ, ◌+◌, ◌-◌, ◌<◌, ◌≤◌, ◌^◌, List, [], ◌++◌, length}
+use Rattle.std.specs.Prelude.{slice_index, All, IsBitSet}
 use Rattle.std.specs.List.{remove}
 use Rattle.pol_relation.specs.Relations.{LanguageView}
 use Rattle.pol_relation.specs.Instances.{InstanceView}
 use Rattle.pol_nogood.specs.Nogoods.{Pair, IsContained, IsNogood}
-use Rattle.pol_nogood.specs.Logs.{StepView, value_case, nogood_at, FitsMost}
+use Rattle.pol_nogood.specs.Logs.{StepView, value_case, FitsMost}
 use Rattle.pol_nogood.specs.ValidLogs.{AreValid}
 use Rattle.pol_strong.specs.Contradictions.{IsContradicted, AreOpen}
 use Rattle.pol_strong.specs.Finished.{RefersByVariable, AllOpen}
@@ -13,11 +14,14 @@ use Rattle.pol_strong.specs.Stores.{StoreView, pair_of}
 -- masks without the values that are deleted beside a part of the front
 pub record AreBeside (d : ℕ) (log : List StepView) (front : List Pair) (masks : List ℕ) : Type 0 where
   pub below : All (λ m. m < 2 ^ d) masks
-  pub cleared : All (λ s. (i : ℕ) → i < length s.nogood → IsContained (remove s.nogood i) front → IsBitSet (slice_index masks (pair_of s.nogood i).variable) (pair_of s.nogood i).value → ⊥) log
+  pub cleared : All (λ s. (i : ℕ) → i < length s.nogood → IsContained (remove s.nogood i) front
+      → IsBitSet (slice_index masks (pair_of s.nogood i).variable) (pair_of s.nogood i).value → ⊥) log
 
 -- masks without the values that are deleted beside just this nogood
 abbrev pub AreCleared : List StepView → List Pair → List ℕ → Type 0
-AreCleared log nogood masks = All (λ s. (i : ℕ) → i < length s.nogood → remove s.nogood i ≡ nogood → IsBitSet (slice_index masks (pair_of s.nogood i).variable) (pair_of s.nogood i).value → ⊥) log
+AreCleared log nogood masks =
+    All (λ s. (i : ℕ) → i < length s.nogood → remove s.nogood i ≡ nogood
+    → IsBitSet (slice_index masks (pair_of s.nogood i).variable) (pair_of s.nogood i).value → ⊥) log
 
 -- smaller masks
 pub record IsLess (d : ℕ) (old new : List ℕ) : Type 0 where
@@ -35,7 +39,8 @@ pub record IsDeleting (lang : LanguageView) (inst : InstanceView) (s : StoreView
   pub nonempty : All (λ s. s.nogood ≢ []) s.log
 
 -- more is deleted, or nothing, and then what is said of the log holds
-pub record Deletes (lang : LanguageView) (inst : InstanceView) (Settled : List StepView → Type 0) (old new : StoreView) : Type 0 where
+pub record Deletes (lang : LanguageView) (inst : InstanceView) (Settled : List StepView → Type 0)
+    (old new : StoreView) : Type 0 where
   pub deleting : IsDeleting lang inst new
   pub most : new.most ≡ old.most
   pub grown : length old.log ≤ length new.log
@@ -43,8 +48,8 @@ pub record Deletes (lang : LanguageView) (inst : InstanceView) (Settled : List S
   pub same : length new.log ≤ length old.log → new.log ≡ old.log
   pub settled : length new.log ≤ length old.log → Settled new.log
 
--- all that goes on from the front, by at most so many pairs of variables from low on, and is not empty, contains a deleted
--- nogood or has open values
+-- all that goes on from the front, by at most so many pairs of variables from low on, and is not empty, contains
+-- a deleted nogood or has open values
 abbrev pub AllOpenFrom : (n d : ℕ) → (front : List Pair) → (low most : ℕ) → List StepView → Type 0
 AllOpenFrom n d front low most log =
     (more : List Pair)
@@ -71,7 +76,8 @@ OpenBelow n d front x a most log = (b : ℕ) → b < a → OpenWith n d front x 
 abbrev pub OpenHere : (n d : ℕ) → List Pair → List StepView → Type 0
 OpenHere n d front log = 1 ≤ length front → ¬ IsContradicted log front → AreOpen n d log front
 
--- what the sweeps leave: the same of a longer log, in which no nogood but the empty one is left to delete by a variable
+-- what the sweeps leave: a log, longer or the same, in which no nogood but the empty one is left to delete by a
+-- variable
 pub record IsSwept (lang : LanguageView) (inst : InstanceView) (old new : StoreView) : Type 0 where
   pub deleting : IsDeleting lang inst new
   pub most : new.most ≡ old.most

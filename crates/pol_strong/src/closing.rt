@@ -1,4 +1,4 @@
-ghost use Rattle.std.specs.Prelude.{◌≡◌, ◌≢◌, ℕ, ◌+◌, ◌<◌, ◌≤◌, ◌++◌, length, All, IfOk, OnOk, IfSome, IfNone, IsTrue};
+ghost use Rattle.std.specs.Prelude.{◌≡◌, ◌≢◌, ℕ, ◌<◌, ◌≤◌, length, All, IfOk, OnOk, IfSome, IfNone, IsTrue};
 ghost use Rattle.std.specs.Bool.{OnTrue, OnFalse};
 ghost use Rattle.pol_nogood.specs.Nogoods.{IsNogood};
 ghost use Rattle.pol_nogood.specs.Logs.{value_cases};
@@ -8,7 +8,7 @@ ghost use Rattle.pol_strong.specs.Finished.{HasValue};
 ghost use Rattle.pol_strong.specs.Contradictions.{IsContradicted, IsOpen};
 ghost use Rattle.pol_strong.specs.Sweeps.{AreBeside, IsDeleting, Deletes, OpenHere};
 
-use crate::nogoods::{copy, names};
+use crate::nogoods::names;
 use crate::parts::reference;
 use crate::store::Store;
 use pol_base::{NoMemory, Numbers};
@@ -29,8 +29,10 @@ pub(crate) fn references(
     requires variable { v < store.now.variables }
     requires domain { d ≡ store.now.domain }
     requires apart { All (λ p. p.variable ≢ v) front.now }
-    ensures referred { IfOk result (λ found. IfSome found (HasReferences store.now.log front.now (value_cases v d))) }
-    ensures free { IfOk result (λ found. IfNone found ((IsContradicted store.now.log front.now → ⊥) → IsOpen d store.now.log front.now v)) }
+    ensures referred { IfOk result (λ found. IfSome found
+        (HasReferences store.now.log front.now (value_cases v d))) }
+    ensures free { IfOk result (λ found. IfNone found
+        (¬ IsContradicted store.now.log front.now → IsOpen d store.now.log front.now v)) }
 {
     let mut references = Numbers::new(alloc);
     for a in 0..d {
@@ -57,8 +59,13 @@ fn closing_references(
     requires variables { store.now.variables ≤ 40 }
     requires domain { d ≡ store.now.domain }
     ensures apart { IfOk result (λ found. IfSome found (λ _. All (λ p. p.variable ≢ v) front.now)) }
-    ensures referred { IfOk result (λ found. IfSome found (HasReferences store.now.log front.now (value_cases v d))) }
-    ensures free { IfOk result (λ found. IfNone found (All (λ p. p.variable ≢ v) front.now → AreBeside d store.now.log front.now masks.now → (IsContradicted store.now.log front.now → ⊥) → IsOpen d store.now.log front.now v)) }
+    ensures referred { IfOk result (λ found. IfSome found
+        (HasReferences store.now.log front.now (value_cases v d))) }
+    ensures free { IfOk result (λ found. IfNone found
+        (All (λ p. p.variable ≢ v) front.now
+        → AreBeside d store.now.log front.now masks.now
+        → ¬ IsContradicted store.now.log front.now
+        → IsOpen d store.now.log front.now v)) }
 {
     let _most = store.most();
     if masks[v as usize] != 0 || names(front, v) {
@@ -84,7 +91,8 @@ fn delete_front(
     requires variable { v < length inst.now.variables }
     requires apart { All (λ p. p.variable ≢ v) front.now }
     requires referred { HasReferences store.old.log front.now (value_cases v lang.now.domain) refs }
-    ensures deletes { OnOk result (Deletes lang.now inst.now (OpenHere (length inst.now.variables) lang.now.domain front.now) store.old store.new) }
+    ensures deletes { OnOk result (Deletes lang.now inst.now
+        (OpenHere (length inst.now.variables) lang.now.domain front.now) store.old store.new) }
     ensures deleted { IfOk result (λ b. IsTrue b → length store.old.log < length store.new.log) }
 {
     let _most = store.most();
@@ -92,7 +100,7 @@ fn delete_front(
     if let Some(_step) = store.find(front) {
         return Ok(false);
     }
-    let nogood = copy(front);
+    let nogood = front.copy();
     store.put(Step::ByVariable { v, nogood, refs })?;
     Ok(true)
 }
@@ -110,7 +118,9 @@ pub(crate) fn delete_by_variable(
     requires deleting { IsDeleting lang.now inst.now store.old }
     requires nogood { IsNogood (length inst.now.variables) lang.now.domain front.now }
     requires size { length front.now ≤ store.old.most }
-    ensures deletes { OnOk result (Deletes lang.now inst.now (λ log. AreBeside lang.now.domain log front.now masks.now → OpenHere (length inst.now.variables) lang.now.domain front.now log) store.old store.new) }
+    ensures deletes { OnOk result (Deletes lang.now inst.now
+        (λ log. AreBeside lang.now.domain log front.now masks.now
+        → OpenHere (length inst.now.variables) lang.now.domain front.now log) store.old store.new) }
     ensures deleted { IfOk result (λ b. IsTrue b → length store.old.log < length store.new.log) }
 {
     if front.is_empty() {
@@ -135,7 +145,8 @@ pub(crate) fn delete_empty(
 ) -> Result<bool, NoMemory>
     requires few { length inst.now.variables ≤ 40 }
     requires deleting { IsDeleting lang.now inst.now store.old }
-    ensures deleted { IfOk result (λ deleted. OnTrue deleted (IsCertificate store.old.most lang.now inst.now store.new.log)) }
+    ensures deleted { IfOk result (λ deleted. OnTrue deleted
+        (IsCertificate store.old.most lang.now inst.now store.new.log)) }
     ensures same { IfOk result (λ deleted. OnFalse deleted (store.new ≡ store.old)) }
     ensures left { IfOk result (λ deleted. OnFalse deleted
         ((v : ℕ) → v < length inst.now.variables → HasValue lang.now.domain store.old.log v)) }

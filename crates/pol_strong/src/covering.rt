@@ -1,4 +1,5 @@
-ghost use Rattle.std.specs.Prelude.{◌≡◌, ◌≢◌, ◌+◌, ◌<◌, ◌≤◌, [], ◌++◌, length, All, Contains, IfOk, OnOk, IfSome, IfNone};
+ghost use Rattle.std.specs.Prelude.{◌≡◌, ◌≢◌, ◌+◌, ◌<◌, ◌≤◌, ◌++◌, length, All, Contains};
+ghost use Rattle.std.specs.Prelude.{IfOk, OnOk, IfSome, IfNone};
 ghost use Rattle.std.specs.Bool.{OnTrue, OnFalse};
 ghost use Rattle.pol_relation.specs.Relations.{rows_of};
 ghost use Rattle.pol_relation.specs.Instances.{Fits, constraint_of};
@@ -41,7 +42,8 @@ fn delete_uncovered(
     requires value { a < lang.now.domain }
     requires apart { All (λ p. p.variable ≢ x) front.now }
     requires no_case { HasCase lang.now (constraint_of inst.now c) (front.now ++ value_case x a) → ⊥ }
-    ensures adds { OnOk result (Adds lang.now inst.now (λ log. IsContradicted log (front.now ++ value_case x a)) store.old store.new) }
+    ensures adds { OnOk result (Adds lang.now inst.now
+        (λ log. IsContradicted log (front.now ++ value_case x a)) store.old store.new) }
 {
     let _most = store.most();
     let _size = lang.domain().size();
@@ -94,11 +96,13 @@ fn next_rows(
     requires variable { x < length inst.now.variables }
     requires scope { Contains (constraint_of inst.now c).scope x }
     requires value { a < lang.now.domain }
-    requires cases { AreCases (rows_of lang.now (constraint_of inst.now c).relation) (constraint_of inst.now c).scope front.now rows.now }
-    ensures none { IfOk result (λ found. IfNone found
-        (Adds lang.now inst.now (CoversWith lang.now inst.now (constraint_of inst.now c) front.now x a most) store.old store.new)) }
+    requires cases { let one = constraint_of inst.now c in
+        AreCases (rows_of lang.now one.relation) one.scope front.now rows.now }
+    ensures none { IfOk result (λ found. IfNone found (Adds lang.now inst.now
+        (CoversWith lang.now inst.now (constraint_of inst.now c) front.now x a most) store.old store.new)) }
     ensures same { IfOk result (λ found. IfSome found (λ _. store.new ≡ store.old)) }
-    ensures goes_on { IfOk result (λ found. IfSome found (GoesOn lang.now (constraint_of inst.now c) front.now x a most)) }
+    ensures goes_on { IfOk result (λ found. IfSome found
+        (GoesOn lang.now (constraint_of inst.now c) front.now x a most)) }
 {
     let relation = lang.relation(inst.relation_of(c));
     let scope = inst.scope(c);
@@ -136,10 +140,11 @@ fn cover(
     requires before { All (λ p. p.variable < low) front.now }
     requires some { 1 ≤ most }
     requires size { length front.now + most ≡ store.old.most }
-    requires cases { AreCases (rows_of lang.now (constraint_of inst.now c).relation) (constraint_of inst.now c).scope front.now rows.now }
+    requires cases { let one = constraint_of inst.now c in
+        AreCases (rows_of lang.now one.relation) one.scope front.now rows.now }
     requires case { HasCase lang.now (constraint_of inst.now c) front.now }
-    ensures adds { OnOk result
-        (Adds lang.now inst.now (CoversFrom lang.now inst.now (constraint_of inst.now c) front.now low most) store.old store.new) }
+    ensures adds { OnOk result (Adds lang.now inst.now
+        (CoversFrom lang.now inst.now (constraint_of inst.now c) front.now low most) store.old store.new) }
 {
     let _most = store.most();
     let scope = inst.scope(c);
@@ -180,9 +185,11 @@ fn cover_constraint(
     requires fits { Fits lang.now inst.now }
     requires deleting { IsDeleting lang.now inst.now store.old }
     requires known { c < length inst.now.constraints }
-    ensures broken { IfOk result (λ broken. OnTrue broken (IsCertificate store.old.most lang.now inst.now store.new.log)) }
-    ensures covered { IfOk result (λ broken. OnFalse broken
-        (Adds lang.now inst.now (λ log. HasScopeCases lang.now inst.now store.old.most log (constraint_of inst.now c)) store.old store.new)) }
+    ensures broken { IfOk result (λ broken. OnTrue broken
+        (IsCertificate store.old.most lang.now inst.now store.new.log)) }
+    ensures covered { IfOk result (λ broken. OnFalse broken (Adds lang.now inst.now
+        (λ log. HasScopeCases lang.now inst.now store.old.most log (constraint_of inst.now c))
+        store.old store.new)) }
 {
     let most = store.most();
     let relation = lang.relation(inst.relation_of(c));
@@ -219,9 +226,11 @@ pub(crate) fn cover_all(
     requires few { length inst.now.variables ≤ 40 }
     requires fits { Fits lang.now inst.now }
     requires deleting { IsDeleting lang.now inst.now store.old }
-    ensures broken { IfOk result (λ broken. OnTrue broken (IsCertificate store.old.most lang.now inst.now store.new.log)) }
-    ensures covered { IfOk result (λ broken. OnFalse broken
-        (Adds lang.now inst.now (λ log. All (HasScopeCases lang.now inst.now store.old.most log) inst.now.constraints) store.old store.new)) }
+    ensures broken { IfOk result (λ broken. OnTrue broken
+        (IsCertificate store.old.most lang.now inst.now store.new.log)) }
+    ensures covered { IfOk result (λ broken. OnFalse broken (Adds lang.now inst.now
+        (λ log. All (HasScopeCases lang.now inst.now store.old.most log) inst.now.constraints)
+        store.old store.new)) }
 {
     for c in 0..inst.constraints() {
         if cover_constraint(alloc, lang, inst, c, store)? {

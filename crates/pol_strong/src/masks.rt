@@ -19,6 +19,7 @@ pub(crate) fn meet(masks: &[u8; 40], others: &[u8], place: usize) -> [u8; 40]
 
 /// Whether a mask has no value. Looks at all of them, since so it takes a few instructions.
 pub(crate) fn has_empty(masks: &[u8; 40]) -> bool
+    ensures long { length masks.now ≡ 40 }
     ensures full { OnFalse result (All (λ m. m ≢ 0) masks.now) }
 {
     let mut empty = false;

@@ -32,21 +32,12 @@ pub(crate) fn others(nogood: &Nogood, j: u32) -> Nogood
     rest
 }
 
-/// The same nogood.
-pub(crate) fn copy(nogood: &Nogood) -> Nogood
-    ensures copy { result ≡ nogood.now }
-{
-    let mut other = Nogood::new();
-    push_pairs(&mut other, nogood, 0, nogood.len());
-    other
-}
-
 /// The nogood with a further pair.
 pub(crate) fn joined(front: &Nogood, x: u32, a: u8) -> Nogood
     requires room { length front.now < 3 }
     ensures joined { result ≡ front.now ++ value_case x a }
 {
-    let mut nogood = copy(front);
+    let mut nogood = front.copy();
     nogood.push(x, a);
     nogood
 }

@@ -57,7 +57,8 @@ fn step_with_two_from(store: &Store, front: &Nogood, i: u32, v: u32, a: u8) -> O
     ensures known { IfSome result (λ s. s < length store.now.log) }
     ensures within { IfSome result (λ s. IsContained (nogood_at store.now.log s) (front.now ++ value_case v a)) }
     ensures none { IfNone result ((k : ℕ) → i < k → k < length front.now
-        → IsFree store.now.log (pair_of front.now i ∷ pair_of front.now k ∷ []) (record { variable = v; value = a })) }
+        → IsFree store.now.log (pair_of front.now i ∷ pair_of front.now k ∷ [])
+        (record { variable = v; value = a })) }
 {
     let count = front.len();
     let (x, b) = front.pair(i);
@@ -80,7 +81,8 @@ fn step_with_two(store: &Store, front: &Nogood, v: u32, a: u8) -> Option<u32>
     ensures known { IfSome result (λ s. s < length store.now.log) }
     ensures within { IfSome result (λ s. IsContained (nogood_at store.now.log s) (front.now ++ value_case v a)) }
     ensures none { IfNone result ((i k : ℕ) → i < k → k < length front.now
-        → IsFree store.now.log (pair_of front.now i ∷ pair_of front.now k ∷ []) (record { variable = v; value = a })) }
+        → IsFree store.now.log (pair_of front.now i ∷ pair_of front.now k ∷ [])
+        (record { variable = v; value = a })) }
 {
     for i in 0..front.len() {
         if let Some(step) = step_with_two_from(store, front, i, v, a) {

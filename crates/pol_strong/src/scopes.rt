@@ -99,7 +99,8 @@ pub(crate) fn rows_with(
     requires long { length scope.now ≡ relation.now.arity }
     requires variable { Contains scope.now x }
     requires known { All (λ r. r < length relation.now.rows) rows.now }
-    ensures cases { IfOk result (λ numbers. (front : List Pair) → AreCases relation.now.rows scope.now front rows.now
+    ensures cases { IfOk result (λ numbers. (front : List Pair)
+        → AreCases relation.now.rows scope.now front rows.now
         → AreCases relation.now.rows scope.now (front ++ value_case x a) numbers) }
 {
     let _arity = relation.arity();

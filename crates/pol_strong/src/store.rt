@@ -1,4 +1,5 @@
-ghost use Rattle.std.specs.Prelude.{◌≡◌, ◌≢◌, ℕ, ◌+◌, ◌-◌, ◌*◌, ◌^◌, ◌<◌, ◌≤◌, ◌↔◌, List, [], ◌∷◌, ◌++◌, length, take, drop, All, IfOk, OnOk, OnErr, IfSome, IfNone, IsBitSet, slice_index};
+ghost use Rattle.std.specs.Prelude.{◌≡◌, ◌≢◌, ℕ, ◌+◌, ◌-◌, ◌*◌, ◌^◌, ◌<◌, ◌≤◌, [], length};
+ghost use Rattle.std.specs.Prelude.{All, IfOk, OnOk, OnErr, IfSome, IfNone};
 ghost use Rattle.std.specs.List.{remove};
 ghost use Rattle.pol_base.specs.Tuples.{IsDomain};
 ghost use Rattle.pol_nogood.specs.Logs.{nogood_at};
@@ -18,9 +19,11 @@ use std::marker::Model;
 
 const ROW: usize = 40;
 
-/// A log whose steps are found by their nogoods.
+/// A log whose steps are found by their nogoods. At the rank of each nogood the index has the number of its
+/// step, plus 1, or 0. The filter has a row of masks, one for each variable, beside each nogood that a pair
+/// can join: the values with which no step has just the two together.
 #[derive(Drop)]
-pub struct Store {
+pub(crate) struct Store {
     n: u32,
     d: Domain,
     most: u32,
@@ -70,7 +73,8 @@ fn rank(n: u32, d: Domain, nogood: &Nogood) -> usize
 fn clear_all(n: u32, d: Domain, filter: &mut [u8], nogood: &Nogood)
     requires variables { n ≤ 40 }
     requires nogood { IsNogood n d nogood.now }
-    requires places { (i : ℕ) → i < length nogood.now → rank_of n d (remove nogood.now i) * 40 + 40 ≤ length filter.old }
+    requires places { (i : ℕ) → i < length nogood.now
+        → rank_of n d (remove nogood.now i) * 40 + 40 ≤ length filter.old }
     ensures long { length filter.new ≡ length filter.old }
     ensures less { Clears filter.old filter.new }
     ensures cleared { IsCleared n d filter.new nogood.now }
@@ -95,7 +99,7 @@ fn power(base: usize, k: u32) -> usize
 
 impl Store {
     /// The store of the empty log.
-    pub fn new(alloc: Global, n: u32, d: Domain, most: u32) -> Result<Store, NoMemory>
+    pub(crate) fn new(alloc: Global, n: u32, d: Domain, most: u32) -> Result<Store, NoMemory>
         requires variables { n ≤ 40 }
         requires some { 1 ≤ most }
         requires few { most ≤ 3 }
@@ -114,7 +118,7 @@ impl Store {
     }
 
     /// The number of the step with this nogood.
-    pub fn find(&self, nogood: &Nogood) -> Option<u32>
+    pub(crate) fn find(&self, nogood: &Nogood) -> Option<u32>
         requires small { IsSmall self.now.variables self.now.domain self.now.most nogood.now }
         ensures known { IfSome result (λ s. s < length self.now.log) }
         ensures found { IfSome result (λ s. nogood_at self.now.log s ≡ nogood.now) }
@@ -128,7 +132,7 @@ impl Store {
     }
 
     /// Adds a step whose nogood no other has.
-    pub fn put(&mut self, step: Step) -> Result<(), NoMemory>
+    pub(crate) fn put(&mut self, step: Step) -> Result<(), NoMemory>
         requires small { IsSmall self.old.variables self.old.domain self.old.most (step_named step).nogood }
         requires new { All (λ s. s.nogood ≢ (step_named step).nogood) self.old.log }
         requires room { length self.old.log < 2 ^ 31 }
@@ -143,7 +147,7 @@ impl Store {
     }
 
     /// Of the masks the values that are not deleted beside the nogood.
-    pub fn narrow(&self, nogood: &Nogood, masks: &[u8; 40]) -> [u8; 40]
+    pub(crate) fn narrow(&self, nogood: &Nogood, masks: &[u8; 40]) -> [u8; 40]
         requires small { IsSmall self.now.variables self.now.domain (self.now.most - 1) nogood.now }
         ensures less { IsLess self.now.domain masks.now result }
         ensures cleared { AreCleared self.now.log nogood.now result }
@@ -153,7 +157,7 @@ impl Store {
     }
 
     /// How many pairs a nogood has at most.
-    pub fn most(&self) -> u32
+    pub(crate) fn most(&self) -> u32
         ensures most { result ≡ self.now.most }
         ensures some { 1 ≤ result }
         ensures few { result ≤ 3 }
@@ -162,13 +166,15 @@ impl Store {
         self.most
     }
 
-    pub fn steps(&self) -> &Log
+    /// The log.
+    pub(crate) fn steps(&self) -> &Log
         ensures log { result.now ≡ self.now.log }
     {
         &self.log
     }
 
-    pub fn log(self) -> Log
+    /// The log, without what finds its steps.
+    pub(crate) fn log(self) -> Log
         ensures log { result ≡ self.log }
     {
         self.log

@@ -3,11 +3,12 @@ ghost use Rattle.std.specs.Bool.{OnTrue, OnFalse};
 ghost use Rattle.pol_nogood.specs.Nogoods.{IsNogood};
 ghost use Rattle.pol_nogood.specs.Logs.{value_case};
 ghost use Rattle.pol_strong.specs.Contradictions.{IsContradicted};
-ghost use Rattle.pol_strong.specs.Sweeps.{AreBeside, IsDeleting, Deletes, AllOpenFrom, IsSwept};
-ghost use Rattle.pol_strong.specs.Finished.{AllOpen, HasValue};
 ghost use Rattle.pol_nogood.specs.Answers.{IsCertificate};
+ghost use Rattle.pol_strong.specs.Sweeps.{AreBeside, IsDeleting, Deletes, AllOpenFrom, OpenWith, IsSwept};
+ghost use Rattle.pol_strong.specs.Finished.{AllOpen, HasValue};
 
 use crate::closing::{delete_by_variable, delete_empty};
+use crate::masks::has_empty;
 use crate::nogoods::{joined, one_pair, two_pairs};
 use crate::parts::reference;
 use crate::store::Store;
@@ -47,7 +48,8 @@ fn next_masks(store: &Store, front: &Nogood, masks: &[u8; 40], x: u32, a: u8) ->
     requires apart { All (λ p. p.variable ≢ x) front.now }
     requires values { store.now.domain ≤ 5 }
     ensures contradicted { IfNone result (IsContradicted store.now.log (front.now ++ value_case x a)) }
-    ensures beside { IfSome result (λ next. AreBeside store.now.domain store.now.log front.now masks.now → AreBeside store.now.domain store.now.log (front.now ++ value_case x a) next) }
+    ensures beside { IfSome result (λ next. AreBeside store.now.domain store.now.log front.now masks.now
+        → AreBeside store.now.domain store.now.log (front.now ++ value_case x a) next) }
 {
     if !has_value(masks[x as usize], a) {
         if let Some(_step) = reference(store, front, x, a) {
@@ -55,6 +57,40 @@ fn next_masks(store: &Store, front: &Nogood, masks: &[u8; 40], x: u32, a: u8) ->
         }
     }
     Some(narrow_by(store, front, x, a, masks))
+}
+
+/// The masks beside the front with a further pair, or none where nothing is left to delete from there on:
+/// where these contain a deleted nogood, or no pair can follow and each variable has a value in its mask.
+fn next_visit(
+    store: &Store,
+    front: &Nogood,
+    masks: &[u8; 40],
+    x: u32,
+    a: u8,
+    most: u32,
+) -> Option<[u8; 40]>
+    requires some { 2 ≤ store.now.most }
+    requires few { length front.now + 1 ≤ store.now.most }
+    requires nogood { IsNogood store.now.variables store.now.domain front.now }
+    requires nogood_more { IsNogood store.now.variables store.now.domain (front.now ++ value_case x a) }
+    requires variable { x < store.now.variables }
+    requires variables { store.now.variables ≤ 40 }
+    requires value { a < store.now.domain }
+    requires apart { All (λ p. p.variable ≢ x) front.now }
+    requires values { store.now.domain ≤ 5 }
+    ensures none { IfNone result (AreBeside store.now.domain store.now.log front.now masks.now
+        → OpenWith store.now.variables store.now.domain front.now x a most store.now.log) }
+    ensures beside { IfSome result (λ next. AreBeside store.now.domain store.now.log front.now masks.now
+        → AreBeside store.now.domain store.now.log (front.now ++ value_case x a) next) }
+{
+    let _most = store.most();
+    let Some(next) = next_masks(store, front, masks, x, a) else {
+        return None;
+    };
+    if most < 2 && !has_empty(&next) {
+        return None;
+    }
+    Some(next)
 }
 
 /// Deletes what goes on from the front, by at most `most` pairs of variables from `low` on, wherever
@@ -74,7 +110,9 @@ pub(crate) fn sweep(
     requires size { length front.now + most ≡ store.old.most }
     requires nogood { IsNogood (length inst.now.variables) lang.now.domain front.now }
     requires before { All (λ p. p.variable < low) front.now }
-    ensures deletes { OnOk result (Deletes lang.now inst.now (λ log. AreBeside lang.now.domain log front.now masks.now → AllOpenFrom (length inst.now.variables) lang.now.domain front.now low most log) store.old store.new) }
+    ensures deletes { OnOk result (Deletes lang.now inst.now
+        (λ log. AreBeside lang.now.domain log front.now masks.now
+        → AllOpenFrom (length inst.now.variables) lang.now.domain front.now low most log) store.old store.new) }
 {
     let _most = store.most();
     let d = lang.domain().size();
@@ -84,7 +122,7 @@ pub(crate) fn sweep(
     if most > 0 {
         for x in low..inst.variables() {
             for a in 0..d {
-                if let Some(next) = next_masks(store, front, masks, x, a) {
+                if let Some(next) = next_visit(store, front, masks, x, a, most) {
                     sweep(
                         alloc,
                         lang,
@@ -120,8 +158,8 @@ fn sweep_all(
 ) -> Result<(), NoMemory>
     requires few { length inst.now.variables ≤ 40 }
     requires deleting { IsDeleting lang.now inst.now store.old }
-    ensures deletes { OnOk result
-        (Deletes lang.now inst.now (AllOpen (length inst.now.variables) lang.now.domain store.old.most) store.old store.new) }
+    ensures deletes { OnOk result (Deletes lang.now inst.now
+        (AllOpen (length inst.now.variables) lang.now.domain store.old.most) store.old store.new) }
 {
     let masks = first_masks(store, lang.domain());
     let most = store.most();

@@ -31,10 +31,13 @@ static OF_PAIRS: [(&'static [Written], bool); 7] = [
     (&[(0, &[1, 1])], false),
     (&[(1, &[0, 1]), (4, &[1, 2])], false),
     (&[(1, &[0, 1]), (2, &[0, 2]), (2, &[1, 2])], true),
-    (&[(1, &[0, 1]), (2, &[0, 2]), (2, &[1, 2]), (3, &[2, 2])], false),
+    (
+        &[(1, &[0, 1]), (2, &[0, 2]), (2, &[1, 2]), (3, &[2, 2])],
+        false,
+    ),
 ];
 
-/// The same with relations that a near unanimity operation of four arguments preserves: 0 says that one
+/// The same with relations that a near-unanimity operation of four arguments preserves: 0 says that one
 /// of three values is 1, 1 that both are 0.
 static OF_TRIPLES: [(&'static [Written], bool); 4] = [
     (&[(0, &[0, 1, 2])], true),
@@ -57,8 +60,14 @@ fn pairs_are_decided_by_the_majority(rt: HostRuntime) -> Result<(), Fail> {
     let d = Domain::new(2).expect(&rt, "two values");
     let mut language = Language::new(alloc, d);
     language.add(b"differ", Relation::from_rows(alloc, d, 2, &[0, 1, 1, 0])?)?;
-    language.add(b"one", Relation::from_rows(alloc, d, 2, &[0, 1, 1, 0, 1, 1])?)?;
-    language.add(b"implied", Relation::from_rows(alloc, d, 2, &[0, 0, 0, 1, 1, 1])?)?;
+    language.add(
+        b"one",
+        Relation::from_rows(alloc, d, 2, &[0, 1, 1, 0, 1, 1])?,
+    )?;
+    language.add(
+        b"implied",
+        Relation::from_rows(alloc, d, 2, &[0, 0, 0, 1, 1, 1])?,
+    )?;
     language.add(b"zeros", Relation::from_rows(alloc, d, 2, &[0, 0])?)?;
     language.add(b"none", Relation::new(alloc, d, 2))?;
     for (constraints, solvable) in of_pairs() {
@@ -73,7 +82,9 @@ fn triples_are_decided_by_two_of_four(rt: HostRuntime) -> Result<(), Fail> {
     let alloc = rt.alloc();
     let d = Domain::new(2).expect(&rt, "two values");
     let mut language = Language::new(alloc, d);
-    let rows = [0, 0, 1, 0, 1, 0, 0, 1, 1, 1, 0, 0, 1, 0, 1, 1, 1, 0, 1, 1, 1];
+    let rows = [
+        0, 0, 1, 0, 1, 0, 0, 1, 1, 1, 0, 0, 1, 0, 1, 1, 1, 0, 1, 1, 1,
+    ];
     language.add(b"one", Relation::from_rows(alloc, d, 3, &rows)?)?;
     language.add(b"zeros", Relation::from_rows(alloc, d, 2, &[0, 0])?)?;
     for (constraints, solvable) in of_triples() {

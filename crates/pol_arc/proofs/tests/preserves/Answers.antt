@@ -1,7 +1,7 @@
 use Rattle.std.proofs.Common.{◌≡◌, ℕ, ◌+◌, ◌<◌, ◌⊎◌, inl, inr, subst, sym, arith}
 use Rattle.std.proofs.lemmas.Bool.{cases_eq}
 use Rattle.std.proofs.lemmas.List.{get_or_default}
-use Rattle.pol_relation.specs.Relations.{RelationView, NamedRelation, no_named, relation_of}
+use Rattle.pol_relation.specs.Relations.{NamedRelation, no_named, relation_of}
 use Rattle.pol_optable.specs.SetFunctions.{PreservesSets}
 use Rattle.pol_arc.proofs.tests.preserves.Goals as goal
 

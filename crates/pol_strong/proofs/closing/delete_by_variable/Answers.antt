@@ -1,4 +1,4 @@
-use Rattle.std.proofs.Common.{◌≡◌, List, length, subst}
+use Rattle.std.proofs.Common.{List, length, subst}
 use Rattle.pol_nogood.specs.Logs.{StepView}
 use Rattle.pol_strong.specs.Stores.{StoreView}
 use Rattle.pol_strong.specs.Sweeps.{AreBeside, Deletes, OpenHere}

@@ -1,4 +1,4 @@
-use Rattle.std.proofs.Common.{◌≡◌, ◌≤◌, ◌<◌, length, arith, refl}
+use Rattle.std.proofs.Common.{◌≤◌, length, arith, refl}
 use Rattle.pol_strong.specs.Sweeps.{OpenHere}
 use Rattle.pol_strong.proofs.SweepLemmas.{few_deleted, deletes_nothing, deletes_front, contradicted_by}
 use Rattle.pol_strong.proofs.closing.delete_front.Goals as goal
@@ -15,5 +15,5 @@ returns-in-Some-clause-deletes c =
 
 pub returns-clause-deletes : goal.returns-clause-deletes
 returns-clause-deletes c =
-    deletes_front c.args.lang.now c.args.inst.now (OpenHere (length c.args.inst.now.variables) c.args.lang.now.domain c.args.front.now) c.args.store.now c.put.new.self c.args.v c.args.front.now c.copy-nogood.result c.args.refs c.requires.deleting c.copy-nogood.ensures.copy c.in_ok-put.ensures.ok
+    deletes_front c.args.lang.now c.args.inst.now (OpenHere (length c.args.inst.now.variables) c.args.lang.now.domain c.args.front.now) c.args.store.now c.put.new.self c.args.v c.args.front.now c.copy-nogood.result c.args.refs c.requires.deleting c.copy-nogood.ensures.same c.in_ok-put.ensures.ok
     c.requires.variable c.requires.apart c.requires.nogood c.requires.size c.requires.some c.requires.referred c.in_default.ensures.none

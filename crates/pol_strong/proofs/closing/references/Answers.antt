@@ -1,4 +1,3 @@
-use Rattle.std.proofs.Common.{◌≡◌}
 use Rattle.pol_nogood.proofs.LogMaking.{value_referred}
 use Rattle.pol_strong.proofs.closing.references.Goals as goal
 

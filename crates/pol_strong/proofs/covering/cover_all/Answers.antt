@@ -1,4 +1,4 @@
-use Rattle.std.proofs.Common.{◌≡◌, ◌<◌, ◌+◌, ℕ, List, length, All, arith, sym, subst}
+use Rattle.std.proofs.Common.{◌<◌, ◌+◌, ℕ, List, All, arith, subst}
 use Rattle.std.specs.Bool.{OnFalse}
 use Rattle.pol_relation.specs.Instances.{constraint_of}
 use Rattle.pol_nogood.specs.Logs.{StepView}

@@ -1,4 +1,4 @@
-use Rattle.std.proofs.Common.{◌≡◌, ◌≤◌, ◌<◌, ◌∙◌, ℕ, List, [], length, arith, sym, ap, subst}
+use Rattle.std.proofs.Common.{◌≡◌, ◌≤◌, ◌∙◌, ℕ, List, [], length, arith, sym, ap, subst}
 use Rattle.pol_relation.specs.Relations.{RelationView, relation_of, rows_of}
 use Rattle.pol_relation.specs.Instances.{ConstraintView, constraint_of}
 use Rattle.pol_nogood.specs.Nogoods.{Pair}

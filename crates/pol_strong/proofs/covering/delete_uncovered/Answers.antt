@@ -1,4 +1,4 @@
-use Rattle.std.proofs.Common.{◌≡◌, ◌≤◌, ◌<◌, ◌+◌, ◌++◌, List, length, arith, refl}
+use Rattle.std.proofs.Common.{◌≡◌, ◌≤◌, ◌+◌, ◌++◌, length, arith}
 use Rattle.std.proofs.lemmas.List.{length_push}
 use Rattle.pol_nogood.specs.Nogoods.{Pair}
 use Rattle.pol_nogood.specs.Logs.{value_case}

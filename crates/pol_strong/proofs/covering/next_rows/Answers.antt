@@ -1,11 +1,10 @@
-use Rattle.std.proofs.Common.{◌≡◌, ◌<◌, ◌≤◌, ◌+◌, ◌-◌, ◌++◌, ◌∙◌, ℕ, List, length, get_or, arith, refl, sym, ap, subst}
-use Rattle.std.proofs.lemmas.Bool.{OnTrue_at}
-use Rattle.pol_relation.specs.Relations.{RelationView, relation_of, rows_of}
+use Rattle.std.proofs.Common.{◌≡◌, ◌<◌, ◌+◌, ◌-◌, ◌++◌, ◌∙◌, ℕ, List, length, get_or, arith, refl, sym, ap, subst}
+use Rattle.pol_relation.specs.Relations.{RelationView, relation_of}
 use Rattle.pol_relation.specs.Instances.{ConstraintView, constraint_of}
 use Rattle.pol_nogood.specs.Nogoods.{Pair}
-use Rattle.pol_nogood.specs.Logs.{StepView, value_case}
+use Rattle.pol_nogood.specs.Logs.{value_case}
 use Rattle.pol_strong.specs.Contradictions.{IsContradicted, HasCase}
-use Rattle.pol_strong.specs.Covers.{AreCases, HasRow, CoversWith, row_at}
+use Rattle.pol_strong.specs.Covers.{AreCases, HasRow, CoversWith}
 use Rattle.pol_strong.proofs.ScopeLemmas.{long_rows, no_case_with, case_with}
 use Rattle.pol_strong.proofs.CoverLemmas.{adds_nothing, adds_weaker, covers_contradicted, covers_none}
 use Rattle.pol_strong.proofs.covering.next_rows.Goals as goal

@@ -1,4 +1,4 @@
-use Rattle.std.proofs.Common.{◌≡◌, ◌<◌, length, length-set, arith, ◌∙◌}
+use Rattle.std.proofs.Common.{◌<◌, length, length-set, arith, ◌∙◌}
 use Rattle.pol_strong.proofs.MaskLemmas.{meet_less, meet_below, meet_others}
 use Rattle.pol_strong.proofs.masks.meet.Goals as goal
 

@@ -1,4 +1,4 @@
-use Rattle.std.proofs.Common.{◌≡◌, ◌<◌, ◌≤◌, ◌∙◌, List, ◌++◌, ◌∷◌, [], length, arith, ap, subst, sym}
+use Rattle.std.proofs.Common.{◌<◌, ◌∙◌, List, ◌++◌, ◌∷◌, [], length, arith, ap, subst, sym}
 use Rattle.std.proofs.lemmas.Bool.{OnTrue_at}
 use Rattle.pol_nogood.specs.Nogoods.{Pair}
 use Rattle.pol_strong.proofs.PushLemmas.{pushed_more, pushed_long}

@@ -1,4 +1,4 @@
-use Rattle.std.proofs.Common.{◌≡◌, ◌<◌, ◌≤◌, ◌++◌, ◌∷◌, [], ℕ, List, length, arith, subst}
+use Rattle.std.proofs.Common.{◌<◌, ◌++◌, ◌∷◌, [], List, arith, subst}
 use Rattle.pol_nogood.specs.Nogoods.{Pair, IsContained}
 use Rattle.pol_nogood.specs.Logs.{nogood_at}
 use Rattle.pol_nogood.proofs.LogMaking.{IsContained-none}

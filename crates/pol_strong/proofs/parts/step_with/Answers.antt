@@ -1,4 +1,4 @@
-use Rattle.std.proofs.Common.{◌≡◌, ◌∙◌, ◌++◌, ◌∷◌, [], List, All, ◌≢◌, sym, subst}
+use Rattle.std.proofs.Common.{◌∙◌, List, All, ◌≢◌, sym, subst}
 use Rattle.std.proofs.lemmas.Option.{IfSome_then}
 use Rattle.pol_nogood.specs.Nogoods.{Pair}
 use Rattle.pol_nogood.specs.Logs.{StepView}

@@ -1,8 +1,7 @@
-use Rattle.std.proofs.Common.{◌≡◌, ◌<◌, ◌++◌, ◌∷◌, [], ℕ, List, length, subst}
+use Rattle.std.proofs.Common.{◌++◌, ◌∷◌, [], List, subst}
 use Rattle.std.proofs.lemmas.Option.{get_or_from_slice_get, slice_get_within}
 use Rattle.pol_nogood.specs.Nogoods.{Pair, IsContained}
 use Rattle.pol_nogood.specs.Logs.{nogood_at}
-use Rattle.pol_strong.specs.Stores.{pair_of}
 use Rattle.pol_strong.proofs.PartLemmas.{within_front, one_contained, free_one_more}
 use Rattle.pol_strong.proofs.parts.step_with_one.Goals as goal
 

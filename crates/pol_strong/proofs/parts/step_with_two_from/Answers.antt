@@ -1,4 +1,4 @@
-use Rattle.std.proofs.Common.{◌≡◌, ◌<◌, ◌++◌, ◌∷◌, [], ℕ, List, length, subst}
+use Rattle.std.proofs.Common.{◌++◌, ◌∷◌, [], List, subst}
 use Rattle.std.proofs.lemmas.Option.{get_or_from_slice_get, slice_get_within}
 use Rattle.pol_nogood.specs.Nogoods.{Pair, IsContained}
 use Rattle.pol_nogood.specs.Logs.{nogood_at}

@@ -1,4 +1,4 @@
-use Rattle.std.proofs.Common.{◌<◌, ◌≤◌, ◌≡◌, ℕ, get_or, Contains}
+use Rattle.std.proofs.Common.{◌<◌, ◌≤◌, ℕ, get_or, Contains}
 use Rattle.pol_strong.proofs.scopes.next_variable.Given as goal
 
 abbrev pub invariant-loop-place : goal.invariant-loop-place

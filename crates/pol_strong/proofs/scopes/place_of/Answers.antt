@@ -1,4 +1,4 @@
-use Rattle.std.proofs.Common.{◌≡◌, ◌<◌, ℕ, length, get_or, arith, ◌∙◌}
+use Rattle.std.proofs.Common.{arith, ◌∙◌}
 use Rattle.std.proofs.lemmas.List.{get_or_default}
 use Rattle.pol_strong.proofs.ScopeLemmas.{first_place_is}
 use Rattle.pol_strong.proofs.scopes.place_of.Goals as goal

@@ -1,4 +1,4 @@
-use Rattle.std.proofs.Common.{◌≡◌, ◌<◌, ℕ, [], length, arith, sym}
+use Rattle.std.proofs.Common.{[], arith, sym}
 use Rattle.pol_nogood.proofs.LogCases.{excluded_by_repeat}
 use Rattle.pol_strong.proofs.ScopeLemmas.{one_value_case}
 use Rattle.pol_strong.proofs.scopes.reads_one_value.Goals as goal

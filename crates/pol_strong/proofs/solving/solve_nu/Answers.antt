@@ -1,6 +1,5 @@
-use Rattle.std.proofs.Common.{◌≡◌, ◌<◌, ◌-◌, ◌+◌, ◌∙◌, ℕ, List, length, All, arith, sym, ap, subst}
+use Rattle.std.proofs.Common.{◌<◌, ◌-◌, ℕ, List, length, All, arith, sym, ap, subst}
 use Rattle.std.specs.Bool.{OnTrue, OnFalse}
-use Rattle.pol_optable.specs.Operations.{Operation}
 use Rattle.pol_optable.specs.Tables.{IsOpTable}
 use Rattle.pol_nogood.specs.Logs.{StepView}
 use Rattle.pol_nogood.specs.Answers.{IsCertificate}

@@ -1,4 +1,4 @@
-use Rattle.std.proofs.Common.{◌≡◌, ◌<◌, length, sym, subst, arith}
+use Rattle.std.proofs.Common.{sym, subst, arith}
 use Rattle.pol_nogood.specs.Nogoods.{IsNogood}
 use Rattle.pol_strong.proofs.StoreLemmas.{IsNogood-remove}
 use Rattle.pol_strong.proofs.store.clear_all.Goals as goal

@@ -1,5 +1,5 @@
-use Rattle.std.proofs.Common.{◌≡◌, ◌≤◌, ◌<◌, ◌+◌, ◌*◌, length, take, arith, ap, sym, subst, ◌∙◌}
-use Rattle.pol_nogood.specs.Nogoods.{Pair, IsPair}
+use Rattle.std.proofs.Common.{◌+◌, ◌*◌, arith, ap, sym}
+use Rattle.pol_nogood.specs.Nogoods.{IsPair}
 use Rattle.pol_strong.proofs.RankLemmas.{rank_room, rank_more, pair_known}
 use Rattle.pol_strong.proofs.store.rank.Goals as goal
 

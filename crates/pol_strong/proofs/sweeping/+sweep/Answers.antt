@@ -1,10 +1,8 @@
-use Rattle.std.proofs.Common.{◌≡◌, ◌<◌, ◌≤◌, ◌+◌, ◌-◌, ◌++◌, ◌∙◌, ℕ, List, length, arith, sym, subst, refl}
+use Rattle.std.proofs.Common.{◌+◌, ◌-◌, ◌++◌, ℕ, List, length, arith, sym, subst, refl}
 use Rattle.pol_nogood.specs.Nogoods.{Pair}
 use Rattle.pol_nogood.specs.Logs.{StepView, value_case}
-use Rattle.pol_strong.specs.Contradictions.{IsContradicted}
 use Rattle.pol_strong.specs.Sweeps.{AreBeside, AllOpenFrom, OpenHere, OpenBefore, OpenBelow, OpenWith}
-use Rattle.pol_strong.specs.Stores.{StoreView}
-use Rattle.pol_strong.proofs.SweepLemmas.{deletes_nothing, deletes_weaker, deletes_both, open_below, open_before, open_all, open_contradicted}
+use Rattle.pol_strong.proofs.SweepLemmas.{deletes_nothing, deletes_weaker, deletes_both, open_below, open_before, open_all}
 use Rattle.pol_strong.proofs.sweeping.+sweep.Goals as goal
 use Rattle.pol_strong.proofs.sweeping.+sweep.Goals.{in-Some+in_ok-sweep, in_default}
 
@@ -28,7 +26,7 @@ loop-a-preserved t c =
     let x : ℕ = c.loop-x.x in
     let a : ℕ = c.loop-a.a in
     let log : List StepView = c.loop-a.store.log in
-    elim c.match-next_masks.branch [
+    elim c.match-next_visit.branch [
       | in-Some+in_ok-sweep w ↦ rw w.store-is
           (deletes_both lang inst (so_far n d front masks c.args.low x a c.args.most) (one_more n d front masks x a c.args.most) (so_far n d front masks c.args.low x (a + 1) c.args.most) c.args.store.now c.loop-a.store w.sweep.new.store c.loop-a.invariant
           (deletes_weaker lang inst (λ log. AreBeside d log w.joined.result w.in-Some.next → AllOpenFrom n d w.joined.result (x + 1) (c.args.most - 1) log) (one_more n d front masks x a c.args.most) c.loop-a.store w.sweep.new.store w.in_ok-sweep.ensures.deletes
@@ -39,7 +37,8 @@ loop-a-preserved t c =
       | in_default w ↦ rw w.store-is
           (deletes_both lang inst (so_far n d front masks c.args.low x a c.args.most) (one_more n d front masks x a c.args.most) (so_far n d front masks c.args.low x (a + 1) c.args.most) c.args.store.now c.loop-a.store c.loop-a.store c.loop-a.invariant
           (deletes_nothing lang inst (one_more n d front masks x a c.args.most) c.loop-a.store c.loop-a.store c.loop-a.invariant.deleting refl
-          (λ beside. open_contradicted n d (front ++ value_case x a) (x + 1) (c.args.most - 1) log w.in_default.ensures.contradicted))
+          (subst (λ (m : ℕ). AreBeside d log front masks → OpenWith m d front x a c.args.most log) c.loop-a.invariant.deleting.variables
+          (subst (λ (e : ℕ). AreBeside e log front masks → OpenWith c.loop-a.store.variables e front x a c.args.most log) c.loop-a.invariant.deleting.domain w.in_default.ensures.none)))
           (both n d front masks c.args.low x a c.args.most))
     ]
 

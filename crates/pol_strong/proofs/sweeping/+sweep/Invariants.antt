@@ -1,4 +1,3 @@
-use Rattle.std.proofs.Common.{◌≡◌, ◌<◌, ℕ}
 use Rattle.std.proofs.Common.{length}
 use Rattle.pol_strong.specs.Sweeps.{AreBeside, Deletes, OpenHere, OpenBefore, OpenBelow}
 use Rattle.pol_strong.proofs.sweeping.+sweep.Given as goal

@@ -1,9 +1,8 @@
-use Rattle.std.proofs.Common.{◌≡◌, ◌≢◌, ◌∙◌, ◌<◌, ◌-◌, ℕ, length, arith, sym, ap, subst}
+use Rattle.std.proofs.Common.{◌≡◌, ◌∙◌, ◌<◌, ◌-◌, length, sym, ap, subst}
 use Rattle.std.specs.Bool.{OnFalse}
 use Rattle.pol_nogood.proofs.Counting.{nogood_count}
 use Rattle.pol_strong.specs.Finished.{AllOpen}
 use Rattle.pol_strong.specs.Stores.{StoreView}
-use Rattle.pol_strong.specs.Sweeps.{Deletes}
 use Rattle.pol_strong.proofs.SweepLemmas.{fewer_left}
 use Rattle.pol_strong.proofs.sweeping.delete_all.Goals as goal
 

@@ -1,4 +1,4 @@
-use Rattle.std.proofs.Common.{◌≡◌, ◌<◌, ◌^◌, ℕ, subst}
+use Rattle.std.proofs.Common.{◌<◌, ◌^◌, ℕ, subst}
 use Rattle.std.proofs.lemmas.List.Elements.{All-replicate}
 use Rattle.pol_strong.proofs.BesideLemmas.{beside_none}
 use Rattle.pol_strong.proofs.sweeping.first_masks.Goals as goal

@@ -1,4 +1,4 @@
-use Rattle.std.proofs.Common.{◌≡◌, ◌<◌, length, inl, inr, arith, sym, subst, refl}
+use Rattle.std.proofs.Common.{inl, inr, arith, sym, subst, refl}
 use Rattle.std.proofs.lemmas.Bool.{cases_eq}
 use Rattle.std.proofs.lemmas.List.{get_or_default}
 use Rattle.pol_relation.specs.Relations.{NamedRelation, relation_of, no_named}

@@ -1,9 +1,8 @@
-use Rattle.std.proofs.Common.{◌≡◌, ◌≢◌, ◌<◌, ◌-◌, ◌^◌, ◌∙◌, ℕ, List, length, All, arith, ap, sym, subst}
-use Rattle.pol_nogood.specs.Nogoods.{Pair}
-use Rattle.pol_nogood.specs.Logs.{StepView, nogood_at}
+use Rattle.std.proofs.Common.{◌≡◌, ◌<◌, ◌-◌, length, arith, sym, subst}
+use Rattle.pol_nogood.specs.Logs.{nogood_at}
 use Rattle.pol_strong.specs.Stores.{StoreView}
 use Rattle.pol_strong.specs.Finished.{IsSmall}
-use Rattle.pol_strong.proofs.StoreLemmas.{store_found, store_free, store_place}
+use Rattle.pol_strong.proofs.StoreLemmas.{store_found, store_place}
 use Rattle.pol_strong.proofs.store.Store.find.Goals as goal
 
 pub index-number-requires : goal.index-number-requires

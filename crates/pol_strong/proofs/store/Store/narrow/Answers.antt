@@ -1,11 +1,7 @@
-use Rattle.std.proofs.Common.{◌≡◌, ◌≤◌, ◌<◌, ◌+◌, ◌*◌, ◌-◌, ◌∙◌, ℕ, List, length, All, get_or, arith, ap, sym, subst}
-use Rattle.std.specs.Prelude.{IsBitSet}
-use Rattle.std.specs.List.{remove}
-use Rattle.pol_nogood.specs.Nogoods.{Pair}
-use Rattle.pol_nogood.specs.Logs.{StepView}
-use Rattle.pol_strong.specs.Stores.{StoreView, pair_of}
+use Rattle.std.proofs.Common.{◌≤◌, ◌+◌, ◌*◌, ◌-◌, ℕ, List, length, arith, ap, sym, subst}
+use Rattle.pol_strong.specs.Stores.{StoreView}
 use Rattle.pol_strong.specs.Finished.{IsSmall}
-use Rattle.pol_strong.proofs.StoreLemmas.{masks_inside, masks_cleared}
+use Rattle.pol_strong.proofs.StoreLemmas.{masks_inside}
 use Rattle.pol_strong.proofs.RankLemmas.{rank_few}
 use Rattle.pol_strong.proofs.store.Store.narrow.Goals as goal
 

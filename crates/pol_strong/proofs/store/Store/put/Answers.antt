@@ -1,7 +1,5 @@
-use Rattle.std.proofs.Common.{◌≡◌, ◌≢◌, ◌≤◌, ◌<◌, ◌+◌, ◌*◌, ◌-◌, ◌^◌, ◌∙◌, ℕ, List, length, All, arith, ap, sym, subst}
+use Rattle.std.proofs.Common.{◌≡◌, ◌≢◌, ◌<◌, ◌*◌, ◌-◌, ◌^◌, ◌∙◌, ℕ, List, length, All, arith, ap, sym, subst}
 use Rattle.std.proofs.lemmas.List.{take_at}
-use Rattle.std.specs.List.{remove}
-use Rattle.pol_nogood.specs.Nogoods.{Pair}
 use Rattle.pol_nogood.specs.Logs.{StepView}
 use Rattle.pol_nogood.specs.Steps.{step_named}
 use Rattle.pol_strong.specs.Ranks.{rank_of}
