@@ -176,7 +176,13 @@ fn instance(
     for constraint in constraints {
         if let Some((relation, scope)) = *constraint {
             assert!(rt; relation < lang.len());
-            add_constraint(rt, &mut inst, relation, lang.relation(relation).arity(), scope)?;
+            add_constraint(
+                rt,
+                &mut inst,
+                relation,
+                lang.relation(relation).arity(),
+                scope,
+            )?;
         }
     }
     Ok(inst)
@@ -242,7 +248,11 @@ fn has_solution(lang: &Language, inst: &Instance) -> bool
         return false;
     };
     for cell in 0..count {
-        let values = [digit(d, 3, cell, 0), digit(d, 3, cell, 1), digit(d, 3, cell, 2)];
+        let values = [
+            digit(d, 3, cell, 0),
+            digit(d, 3, cell, 1),
+            digit(d, 3, cell, 2),
+        ];
         if inst.is_solution(lang, &values) {
             return true;
         }
