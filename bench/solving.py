@@ -1,20 +1,19 @@
 #!/usr/bin/env python3
 """Times `polyanna report` on instances of each class that answers with a log, beside their languages alone, in one run.
 
-    bench/solving.py [FAMILY]    makes the files in a temporary folder, and prints a line for each
+    bench/solving.py [FAMILY]    makes the files in a temporary folder, and prints a line for each size of each family
 
-Each file has one instance: 10, 20 or 40 variables and 30 to 256 constraints, drawn at random, either each as it comes
-(`free`) or each that hidden values meet (`hidden`), so that there is a solution. A line has the answer with the number
-of steps that are printed, and the processor time of a whole run (the best of three) less that of the language without
-the instance. Each run has so much address space, libraries included, as its class may take, and must end with status 0
-in it. With a FAMILY, those whose names contain it are run alone.
+A file has one instance: 10, 20 or 40 variables and 30 to 256 constraints at random. They are drawn as they come
+(`free`), or so that hidden values meet them, and there is a solution (`hidden`); where a relation lets two values take
+turns, also with a ring of it, of odd length through half of the variables, and hidden values of the others (`ring`): there
+is no solution, and arc consistency does not show it. Of each kind there are three, and the line has their answers, the
+most steps that are printed, and the most processor time: that of a whole run (the best of three) less that of the language
+without the instance. Each run has so much address space,
+libraries included, as its class may take, and must end with status 0 in it. With a FAMILY, those whose names contain it
+are run alone.
 
 Wanted: by arcs (semilattice operations and set functions) an answer within 10 ms, by majority operations within 50 ms,
 each in 16 MiB; by operations of arity four within 1 s, in 128 MiB.
-
-The families: two colours, 2-SAT, and medians over 3 and 5 values, of two places and of as many as the limits on files
-leave; Horn clauses, minima of rows at random, and an even number beside a further value; not all of three, and at most
-two of more.
 """
 import itertools
 import os
@@ -72,34 +71,32 @@ def few_ones(arity):
 
 
 def families():
-    """The name, the class, the size of the domain, and the relations."""
+    """The name, the class, the size of the domain, the relations, and the one that a ring is made of."""
     unequal = [(0, 1), (1, 0)]
     pairs = full(2, 2)
-    yield "two colours", "majority", 2, [unequal]
-    yield "two colours, one fixed", "majority", 2, [unequal] * 3 + constants(0)
-    yield "2-SAT", "majority", 2, [[row for row in pairs if row != out] for out in [(0, 0), (1, 1), (1, 0)]]
+    yield "two colours", "majority", 2, [unequal], unequal
+    yield "two colours, one fixed", "majority", 2, [unequal] * 3 + constants(0), unequal
+    yield "2-SAT", "majority", 2, [[row for row in pairs if row != out] for out in [(0, 0), (1, 1), (1, 0)]], None
     for size in (3, 5):
         relations = [clauses(size, 2, 3, seed) for seed in range(4)]
-        yield f"medians over {size} values", "majority", size, relations + constants(0, size - 1)
+        yield f"medians over {size} values", "majority", size, relations + constants(0, size - 1), None
     for size, arity in ((5, 4), (3, 6)):
         relations = [clauses(size, arity, 4, 1)] + [clauses(size, 2, 3, seed) for seed in range(4)]
-        yield f"medians of {arity} places over {size} values", "majority", size, relations + constants(0, size - 1)
+        yield f"medians of {arity} places over {size} values", "majority", size, relations + constants(0, size - 1), None
     for size in (2, 3, 5):
         rows = [(x, y, z) for x, y, z in full(size, 3) if z >= min(x, y)]
         rows = rows if len(rows) <= MOST_ROWS else closed(size, 3, 60, 1)
-        yield f"Horn clauses over {size} values", "semilattice", size, [rows] * 3 + constants(0, size - 1)
+        yield f"Horn clauses over {size} values", "semilattice", size, [rows] * 3 + constants(0, size - 1), None
     for size, arity in ((5, 4), (3, 6)):
-        relations = [closed(size, arity, 40, 1)]
-        yield f"minima of {arity} places over {size} values", "semilattice", size, relations + constants(0, size - 1)
+        relations = [closed(size, arity, 40, 1)] + constants(0, size - 1)
+        yield f"minima of {arity} places over {size} values", "semilattice", size, relations, None
     even = [(0, 0, 0), (0, 2, 2), (2, 0, 2), (2, 2, 0)]
-    yield "an even number beside a value", "set-function", 3, [even] * 3 + constants(1)
-    for size in (3, 5):
-        relations = [few_ones(3), [(0, size - 1), (size - 1, 0)]]
-        yield f"arity four over {size} values", "nu4", size, relations
-        yield f"arity four over {size} values, some fixed", "nu4", size, relations + constants(*range(size))
-    for size, arity in ((5, 4), (3, 6)):
-        relations = [few_ones(arity), [(0, size - 1), (size - 1, 0)]]
-        yield f"arity four of {arity} places over {size} values", "nu4", size, relations
+    yield "an even number beside a value", "set-function", 3, [even] * 3 + constants(1), None
+    for size, arity in ((3, 3), (5, 3), (5, 4), (3, 6)):
+        apart = [(0, size - 1), (size - 1, 0)]
+        name = f"arity four, of {arity} places over {size} values"
+        yield name, "nu4", size, [few_ones(arity), apart], apart
+        yield f"{name}, some fixed", "nu4", size, [few_ones(arity)] * 3 + [apart] + constants(*range(size)), apart
 
 
 def text(size, relations, variables, constraints):
@@ -108,9 +105,9 @@ def text(size, relations, variables, constraints):
     lines = ["polyanna 1", f"domain {size}"]
     names = {}
     for rows in relations:
-        name = names.setdefault(tuple(rows), f"r{len(names)}")
-        if name == f"r{len(names) - 1}" and f"relation {name} {len(rows[0])}" not in lines:
-            lines.append(f"relation {name} {len(rows[0])}")
+        if tuple(rows) not in names:
+            names[tuple(rows)] = f"r{len(names)}"
+            lines.append(f"relation {names[tuple(rows)]} {len(rows[0])}")
             lines += ["tuple " + " ".join(map(str, row)) for row in rows]
     if variables:
         lines.append("instance i " + " ".join(f"x{variable}" for variable in range(variables)))
@@ -119,20 +116,21 @@ def text(size, relations, variables, constraints):
     return "\n".join(lines + ["end", ""])
 
 
-def drawn(size, relations, variables, count, hidden, seed):
-    """So many constraints of relations at random, on variables of which no two are the same, and each met by hidden
-    values if this is asked."""
+def drawn(size, relations, ring, variables, count, kind, seed):
+    """So many constraints, on variables of which no two are the same."""
     rng = random.Random(seed)
     values = [rng.randrange(size) for _ in range(variables)]
-    known = [set(rows) for rows in relations]
-    constraints = []
+    free, constraints = list(range(variables)), []
+    if kind == "ring":
+        free, circle = free[variables // 4 * 2 - 1 :], free[: variables // 4 * 2 - 1]
+        constraints = [(ring, scope) for scope in zip(circle, circle[1:] + circle[:1])]
     for _ in range(100 * count):
-        number = rng.randrange(len(relations))
-        scope = rng.sample(range(variables), len(relations[number][0]))
-        if not hidden or tuple(values[variable] for variable in scope) in known[number]:
-            constraints.append((relations[number], scope))
-        if len(constraints) == count:
+        if len(constraints) >= count:
             break
+        rows = rng.choice(relations)
+        scope = rng.sample(free, len(rows[0]))
+        if kind == "free" or tuple(values[variable] for variable in scope) in rows:
+            constraints.append((rows, scope))
     return constraints
 
 
@@ -156,38 +154,30 @@ def run(path, memory):
 
 
 def answer(report):
-    """The class that answered, and yes, or no with the number of its steps."""
+    """The class that answered, what it said, and the number of steps."""
     for line in report.splitlines():
         words = line.split()
-        if words[0] == "instance":
-            return (words[3], words[2] if words[2] == "yes" else f"no, {words[4]} steps") if len(words) > 3 else (None, words[2])
-    return None, "nothing"
+        if words[0] == "instance" and len(words) > 3:
+            return words[3], words[2], int(words[4]) if words[2] == "no" else 0
+    return None, "nothing", 0
 
 
-def measure(folder, name, kind, size, relations):
-    """Prints a line for each instance of the family, and answers whether each limit held."""
-    path = os.path.join(folder, "input")
-    most, memory = LIMITS[kind]
-    good = True
-    with open(path, "w", encoding="ascii") as out:
-        out.write(text(size, relations, 0, []))
-    alone, _, _ = run(path, memory)
-    for (variables, count), hidden in itertools.product(SIZES, (False, True)):
-        constraints = drawn(size, relations, variables, count, hidden, 1000 * variables + count)
+def measure(path, family, kind, variables, count, alone):
+    """What is told of three instances of a kind, and whether each limit held."""
+    _, wanted, size, relations, ring = family
+    most, memory = LIMITS[wanted]
+    slowest, steps, told, good = 0.0, 0, [], True
+    for seed in range(3):
+        constraints = drawn(size, relations, ring, variables, count, kind, 1000 * variables + 3 * count + seed)
         with open(path, "w", encoding="ascii") as out:
             out.write(text(size, relations, variables, constraints))
         spent, status, report = run(path, memory)
-        chosen, told = answer(report)
-        held = status == 0 and chosen == kind and spent - alone <= most
-        good &= held
-        print(
-            f"{name}, {variables} variables, {len(constraints)} constraints, {'hidden' if hidden else 'free'}: "
-            f"{told}, {spent - alone:.1f} ms of {most}, the language {alone:.1f} ms"
-            f"{'' if status == 0 else f', status {status}'}{'' if chosen == kind else f', by {chosen}'}"
-            f"{'' if held else '  MISSED'}",
-            flush=True,
-        )
-    return good
+        chosen, said, number = answer(report)
+        slowest, steps = max(slowest, spent - alone), max(steps, number)
+        told.append(said if status == 0 and chosen == wanted else f"{said} by {chosen} with status {status}")
+        good &= status == 0 and chosen == wanted and spent - alone <= most
+    logs = f" in at most {steps} steps" if steps else ""
+    return f"{kind} {', '.join(told)}{logs}, {slowest:.1f} ms{'' if good else ' MISSED'}", good
 
 
 def main():
@@ -196,9 +186,20 @@ def main():
     wanted = sys.argv[1] if len(sys.argv) > 1 else ""
     good = True
     with tempfile.TemporaryDirectory() as folder:
-        for name, kind, size, relations in families():
-            if wanted in name:
-                good &= measure(folder, name, kind, size, relations)
+        path = os.path.join(folder, "input")
+        for family in families():
+            name, kind, size, relations, ring = family
+            if wanted not in name:
+                continue
+            with open(path, "w", encoding="ascii") as out:
+                out.write(text(size, relations, 0, []))
+            alone, _, _ = run(path, LIMITS[kind][1])
+            print(f"{name}: {kind}, at most {LIMITS[kind][0]} ms, and the language alone {alone:.1f} ms", flush=True)
+            for variables, count in SIZES:
+                kinds = ("free", "hidden", "ring") if ring else ("free", "hidden")
+                lines = [measure(path, family, kind, variables, count, alone) for kind in kinds]
+                good &= all(held for _, held in lines)
+                print(f"  {variables} variables, {count} constraints: {'; '.join(line for line, _ in lines)}", flush=True)
     sys.exit(0 if good else 1)
 
 

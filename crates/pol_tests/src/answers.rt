@@ -1,6 +1,6 @@
 ghost use Rattle.std.specs.Prelude.{◌≡◌, length};
 ghost use Rattle.pol_relation.specs.Instances.{Fits};
-ghost use Rattle.pol_optable.specs.Choices.{AreTables};
+ghost use Rattle.pol_optable.specs.Choices.{AreLines};
 
 use crate::harness::lines;
 use pol_base::{ClassName, Domain, NoMemory, cells, digit};
@@ -20,61 +20,94 @@ type Candidate = Option<(u32, u32)>;
 
 #[test]
 fn instances_of_constants(rt: HostRuntime) -> Result<(), Fail> {
-    let languages: [&[u8]; 2] = [
-        b"polyanna 1|domain 2|relation never 1|relation or 2|tuple 0 1|tuple 1 0|tuple 1 1|end|",
-        b"polyanna 1|domain 3|relation le 2|tuple 0 0|tuple 0 1|tuple 0 2|tuple 1 1|tuple 1 2|tuple 2 2|relation never 2|end|",
+    let languages: [(&[u8], usize); 2] = [
+        (
+            b"polyanna 1|domain 2|relation never 1|relation or 2|tuple 0 1|tuple 1 0|tuple 1 1|end|",
+            13,
+        ),
+        (
+            b"polyanna 1|domain 3|relation le 2|tuple 0 0|tuple 0 1|tuple 0 2|tuple 1 1|tuple 1 2|tuple 2 2|relation never 2|end|",
+            19,
+        ),
     ];
-    for language in languages {
-        assert_answers(&rt, rt.alloc(), language, ClassName::Constant)?;
+    for (language, triples) in languages {
+        assert_answers(&rt, rt.alloc(), language, ClassName::Constant, triples)?;
     }
     Ok(())
 }
 
 #[test]
 fn instances_of_semilattice_operations(rt: HostRuntime) -> Result<(), Fail> {
-    let languages: [&[u8]; 2] = [
-        b"polyanna 1|domain 2|relation h 3|tuple 0 0 0|tuple 0 0 1|tuple 0 1 0|tuple 0 1 1|tuple 1 0 0|tuple 1 0 1|tuple 1 1 1|relation zero 1|tuple 0|relation one 1|tuple 1|end|",
-        b"polyanna 1|domain 3|relation lt 2|tuple 0 1|tuple 0 2|tuple 1 2|relation low 1|tuple 0|tuple 1|end|",
+    let languages: [(&[u8], usize); 2] = [
+        (
+            b"polyanna 1|domain 2|relation h 3|tuple 0 0 0|tuple 0 0 1|tuple 0 1 0|tuple 0 1 1|tuple 1 0 0|tuple 1 0 1|tuple 1 1 1|relation zero 1|tuple 0|relation one 1|tuple 1|end|",
+            0,
+        ),
+        (
+            b"polyanna 1|domain 3|relation lt 2|tuple 0 1|tuple 0 2|tuple 1 2|relation low 1|tuple 0|tuple 1|end|",
+            13,
+        ),
     ];
-    for language in languages {
-        assert_answers(&rt, rt.alloc(), language, ClassName::Semilattice)?;
+    for (language, triples) in languages {
+        assert_answers(&rt, rt.alloc(), language, ClassName::Semilattice, triples)?;
     }
     Ok(())
 }
 
 #[test]
 fn instances_of_set_functions(rt: HostRuntime) -> Result<(), Fail> {
-    let languages: [&[u8]; 2] = [
-        b"polyanna 1|domain 3|relation pp 3|tuple 0 0 0|tuple 0 2 2|tuple 2 0 2|tuple 2 2 0|relation one 1|tuple 1|end|",
-        b"polyanna 1|domain 4|relation pp 3|tuple 0 0 0|tuple 0 2 2|tuple 2 0 2|tuple 2 2 0|relation next 2|tuple 1 0|tuple 1 3|end|",
+    let languages: [(&[u8], usize); 2] = [
+        (
+            b"polyanna 1|domain 3|relation pp 3|tuple 0 0 0|tuple 0 2 2|tuple 2 0 2|tuple 2 2 0|relation one 1|tuple 1|end|",
+            0,
+        ),
+        (
+            b"polyanna 1|domain 4|relation pp 3|tuple 0 0 0|tuple 0 2 2|tuple 2 0 2|tuple 2 2 0|relation next 2|tuple 1 0|tuple 1 3|end|",
+            0,
+        ),
     ];
-    for language in languages {
-        assert_answers(&rt, rt.alloc(), language, ClassName::SetFunction)?;
+    for (language, triples) in languages {
+        assert_answers(&rt, rt.alloc(), language, ClassName::SetFunction, triples)?;
     }
     Ok(())
 }
 
 #[test]
 fn instances_of_majority_operations(rt: HostRuntime) -> Result<(), Fail> {
-    let languages: [&[u8]; 3] = [
-        b"polyanna 1|domain 2|relation neq 2|tuple 0 1|tuple 1 0|relation zero 1|tuple 0|end|",
-        b"polyanna 1|domain 2|relation or 2|tuple 0 1|tuple 1 0|tuple 1 1|relation nand 2|tuple 0 0|tuple 0 1|tuple 1 0|end|",
-        b"polyanna 1|domain 3|relation turn 2|tuple 0 1|tuple 1 2|tuple 2 0|relation some 1|tuple 0|tuple 1|end|",
+    let languages: [(&[u8], usize); 3] = [
+        (
+            b"polyanna 1|domain 2|relation neq 2|tuple 0 1|tuple 1 0|relation zero 1|tuple 0|end|",
+            13,
+        ),
+        (
+            b"polyanna 1|domain 2|relation or 2|tuple 0 1|tuple 1 0|tuple 1 1|relation nand 2|tuple 0 0|tuple 0 1|tuple 1 0|end|",
+            19,
+        ),
+        (
+            b"polyanna 1|domain 3|relation turn 2|tuple 0 1|tuple 1 2|tuple 2 0|relation some 1|tuple 0|tuple 1|end|",
+            13,
+        ),
     ];
-    for language in languages {
-        assert_answers(&rt, rt.alloc(), language, ClassName::Majority)?;
+    for (language, triples) in languages {
+        assert_answers(&rt, rt.alloc(), language, ClassName::Majority, triples)?;
     }
     Ok(())
 }
 
 #[test]
 fn instances_of_operations_of_arity_four(rt: HostRuntime) -> Result<(), Fail> {
-    let languages: [&[u8]; 2] = [
-        b"polyanna 1|domain 3|relation qq 3|tuple 0 0 0|tuple 0 0 1|tuple 0 1 0|tuple 0 1 1|tuple 1 0 0|tuple 1 0 1|tuple 1 1 0|relation nn 2|tuple 0 2|tuple 2 0|end|",
-        b"polyanna 1|domain 4|relation qq 3|tuple 0 0 0|tuple 0 0 1|tuple 0 1 0|tuple 0 1 1|tuple 1 0 0|tuple 1 0 1|tuple 1 1 0|relation nn 2|tuple 0 3|tuple 3 0|relation some 1|tuple 1|tuple 3|end|",
+    let languages: [(&[u8], usize); 2] = [
+        (
+            b"polyanna 1|domain 3|relation nn 2|tuple 0 2|tuple 2 0|relation qq 3|tuple 0 0 0|tuple 0 0 1|tuple 0 1 0|tuple 0 1 1|tuple 1 0 0|tuple 1 0 1|tuple 1 1 0|end|",
+            10,
+        ),
+        (
+            b"polyanna 1|domain 4|relation nn 2|tuple 0 3|tuple 3 0|relation qq 3|tuple 0 0 0|tuple 0 0 1|tuple 0 1 0|tuple 0 1 1|tuple 1 0 0|tuple 1 0 1|tuple 1 1 0|relation some 1|tuple 1|tuple 3|end|",
+            10,
+        ),
     ];
-    for language in languages {
-        assert_answers(&rt, rt.alloc(), language, ClassName::Nu4)?;
+    for (language, triples) in languages {
+        assert_answers(&rt, rt.alloc(), language, ClassName::Nu4, triples)?;
     }
     Ok(())
 }
@@ -87,21 +120,23 @@ fn read(rt: &impl Abort, alloc: Global, text: &[u8]) -> Result<File, Fail> {
     Ok(file)
 }
 
-/// Each instance of three variables with at most three constraints of the language is answered by the
-/// class: with a solution, or with a log where the list of all assignments has none.
+/// Each instance of three variables with at most two constraints of the language, or with three of the
+/// first so many, is answered by the class: with a solution, or with a log where the list of all
+/// assignments has none.
 fn assert_answers(
     rt: &impl Abort,
     alloc: Global,
     language: &[u8],
     class: ClassName,
+    triples: usize,
 ) -> Result<(), Fail> {
     let file = read(rt, alloc, language)?;
     let classes = classify(alloc, file.lang())?;
     assert_eq!(rt; classes.first(), Some(class));
     let all = candidates(alloc, file.lang())?;
     for i in 0..all.len() {
-        for j in i..all.len() {
-            for k in j..all.len() {
+        for j in 0..i + 1 {
+            for k in 0..if i < triples { j + 1 } else { 1 } {
                 let inst = instance(rt, alloc, file.lang(), &[all[i], all[j], all[k]])?;
                 assert!(rt; inst.fits(file.lang()) && inst.variables() == 3);
                 let answered = is_answered(alloc, file.lang(), &inst, &classes)?;
@@ -141,7 +176,13 @@ fn instance(
     for constraint in constraints {
         if let Some((relation, scope)) = *constraint {
             assert!(rt; relation < lang.len());
-            add_constraint(rt, &mut inst, relation, lang.relation(relation).arity(), scope)?;
+            add_constraint(
+                rt,
+                &mut inst,
+                relation,
+                lang.relation(relation).arity(),
+                scope,
+            )?;
         }
     }
     Ok(inst)
@@ -176,7 +217,7 @@ fn is_answered(
 ) -> Result<bool, NoMemory>
     requires fits { Fits lang.now inst.now }
     requires three { length inst.now.variables ≡ 3 }
-    requires tables { AreTables lang.now classes.now }
+    requires lines { AreLines lang.now classes.now }
 {
     Ok(match answer(alloc, lang, inst, classes)? {
         InstanceAnswer::Yes(values) => is_solution(lang, inst, values.as_slice()),
@@ -207,7 +248,11 @@ fn has_solution(lang: &Language, inst: &Instance) -> bool
         return false;
     };
     for cell in 0..count {
-        let values = [digit(d, 3, cell, 0), digit(d, 3, cell, 1), digit(d, 3, cell, 2)];
+        let values = [
+            digit(d, 3, cell, 0),
+            digit(d, 3, cell, 1),
+            digit(d, 3, cell, 2),
+        ];
         if inst.is_solution(lang, &values) {
             return true;
         }
