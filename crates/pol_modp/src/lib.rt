@@ -19,3 +19,5 @@ pub use equation::Equation;
 
 #[cfg(test)]
 mod combination_tests;
+#[cfg(test)]
+mod equation_tests;
