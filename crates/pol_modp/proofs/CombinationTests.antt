@@ -22,16 +22,16 @@ placed_from_test lang inst part passes =
     let many = eqb (length part.coefs) (arity_at lang inst part.constraint) in
     let multiplier = ltb part.multiplier lang.domain in
     let right = ltb part.right lang.domain in
-    let one = and_parts (known && many && multiplier && right) (are_below lang.domain part.coefs) passes in
-    let two = and_parts (known && many && multiplier) right one.0 in
-    let three = and_parts (known && many) multiplier two.0 in
-    let four = and_parts known many three.0 in
+    let with_coefs = and_parts (known && many && multiplier && right) (are_below lang.domain part.coefs) passes in
+    let with_right = and_parts (known && many && multiplier) right with_coefs.0 in
+    let with_multiplier = and_parts (known && many) multiplier with_right.0 in
+    let with_many = and_parts known many with_multiplier.0 in
     record {
-      known = ltb-true part.constraint (length inst.constraints) four.0;
-      as_many = eqb-true (length part.coefs) (arity_at lang inst part.constraint) four.1;
-      multiplier_below = ltb-true part.multiplier lang.domain three.1;
-      right_below = ltb-true part.right lang.domain two.1;
-      coefs_below = All-from_list_all (λ a. ltb a lang.domain) (λ a. a < lang.domain) (λ a. ltb-true a lang.domain) part.coefs one.1;
+      known = ltb-true part.constraint (length inst.constraints) with_many.0;
+      as_many = eqb-true (length part.coefs) (arity_at lang inst part.constraint) with_many.1;
+      multiplier_below = ltb-true part.multiplier lang.domain with_multiplier.1;
+      right_below = ltb-true part.right lang.domain with_right.1;
+      coefs_below = All-from_list_all (λ a. ltb a lang.domain) (λ a. a < lang.domain) (λ a. ltb-true a lang.domain) part.coefs with_coefs.1;
     }
 
 pub test_from_placed : (lang : LanguageView) (inst : InstanceView) (part : PartView) → IsPlaced lang inst part → part_placed lang inst part ≡ true
@@ -42,10 +42,10 @@ test_from_placed lang inst part is =
     let right = ltb part.right lang.domain in
     and_from (known && many && multiplier && right) (are_below lang.domain part.coefs)
     (and_from (known && many && multiplier) right
-      (and_from (known && many) multiplier
-        (and_from known many (lt-ltb part.constraint (length inst.constraints) is.known) (eq-eqb (length part.coefs) (arity_at lang inst part.constraint) is.as_many))
-        (lt-ltb part.multiplier lang.domain is.multiplier_below))
-      (lt-ltb part.right lang.domain is.right_below))
+    (and_from (known && many) multiplier
+    (and_from known many (lt-ltb part.constraint (length inst.constraints) is.known) (eq-eqb (length part.coefs) (arity_at lang inst part.constraint) is.as_many))
+    (lt-ltb part.multiplier lang.domain is.multiplier_below))
+    (lt-ltb part.right lang.domain is.right_below))
     (list_all-from_All (λ a. ltb a lang.domain) (λ a. a < lang.domain) (λ a. lt-ltb a lang.domain) part.coefs is.coefs_below)
 
 pub implied_from_test : (lang : LanguageView) (inst : InstanceView) (labels : List ℕ) (part : PartView) → part_implied lang inst labels part ≡ true → IsImplied lang inst labels part
@@ -127,7 +127,7 @@ not_passes true passes = absurd (true≢false (sym passes))
 
 -- where each test passes there is no fault
 no_fault : (labels : Bool) (placed implied zeros : Option ℕ) (right : Bool) → labels ≡ true → placed ≡ None → implied ≡ None → zeros ≡ None → right ≡ true
-        → fault_unless labels fault.BadLabels (fault_at placed fault.BadPlace (fault_at implied fault.NotImplied (fault_at zeros fault.Remainder (fault_unless right fault.ZeroRight None)))) ≡ None
+    → fault_unless labels fault.BadLabels (fault_at placed fault.BadPlace (fault_at implied fault.NotImplied (fault_at zeros fault.Remainder (fault_unless right fault.ZeroRight None)))) ≡ None
 no_fault labels placed implied zeros right a b c d e = rw (a, b, c, d, e) refl
 
 -- the tests of a combination, and what comes behind each

@@ -1,6 +1,5 @@
 -- The fault that is found is the first in words, and no other is.
-use Rattle.std.proofs.Common.{◌≡◌, ℕ, ◌+◌, ◌%◌, ◌<◌, ◌≤◌, ◌⊎◌, inl, inr, Bool, true, false, not, eqb, List, length, get_or, take, Option, Some, None, All, refl, sym, ap, ◌∙◌, subst, arith}
-use Rattle.std.specs.List.{list_all, range_with_len}
+use Rattle.std.proofs.Common.{◌≡◌, ℕ, ◌%◌, ◌<◌, ◌⊎◌, inl, inr, Bool, true, false, not, eqb, List, length, get_or, take, Option, Some, None, All, refl, sym, ap, ◌∙◌, subst, arith}
 use Rattle.std.proofs.lemmas.Bool.{both_ways, false_from_ne_true, eqb-true, eqb-false, eq-eqb, ne_eqb}
 use Rattle.std.proofs.lemmas.List.{get_or-take, length-take-le}
 use Rattle.std.proofs.lemmas.List.FromFn.{length-range_with_len}
@@ -122,8 +121,8 @@ module _ (lang : LanguageView) (inst : InstanceView) (c : CombinationView) where
       let test = is_zero_at lang inst c.parts in
       let inside : v < length (variables_of inst) = omega (arith, first.known, length-range_with_len 0 n) in
       let zeros : All (IsZeroAt lang inst c.parts) (take v (variables_of inst)) = λ u e less.
-          let low : u < v = omega (arith, less, length-take-le v (variables_of inst) (omega (arith, inside))) in
-          subst (IsZeroAt lang inst c.parts) (sym (get_or-take v (variables_of inst) u e low ∙ number_from n u e (omega (arith, low, first.known)))) (first.before u low) in
+      let low : u < v = omega (arith, less, length-take-le v (variables_of inst) (omega (arith, inside))) in
+      subst (IsZeroAt lang inst c.parts) (sym (get_or-take v (variables_of inst) u e low ∙ number_from n u e (omega (arith, low, first.known)))) (first.before u low) in
       let fails = ap test (number_at n v first.known) ∙ ne_eqb (sum_at inst c.parts v % lang.domain) 0 first.here in
       first_failing-at test (variables_of inst) v 0 inside (list_all-from_All test (IsZeroAt lang inst c.parts) (λ u. eq-eqb (sum_at inst c.parts u % lang.domain) 0) (take v (variables_of inst)) zeros) fails
 

@@ -36,7 +36,9 @@ fn two_equations_modulo_five(rt: HostRuntime) -> Result<(), Fail> {
     let clashing = equations_of(alloc, clashing_equations())?;
     match eliminated(&rt, alloc, 5, 2, &clashing)? {
         Elim::Values(_) => assert!(rt; false),
-        Elim::Clash(multipliers) => assert!(rt; shows_clash(5, 2, &clashing, multipliers.as_slice())),
+        Elim::Clash(multipliers) => assert!(rt;
+            shows_clash(5, 2, &clashing, multipliers.as_slice())
+        ),
     }
     Ok(())
 }
@@ -55,7 +57,10 @@ fn systems_are_decided_as_by_all_assignments(rt: HostRuntime) -> Result<(), Fail
                 clashes = clashes.wrapping_add(1);
             }
         }
-        assert!(rt; solved >= 10 && clashes >= 10, "{solved} solved, {clashes} clashes modulo {p}");
+        assert!(rt;
+            solved >= 10 && clashes >= 10,
+            "{solved} solved, {clashes} clashes modulo {p}"
+        );
     }
     Ok(())
 }
