@@ -12,6 +12,7 @@ type Written = (u32, u8, u8, &'static [u8]);
 static SUM_IS_0: [u8; 27] = [
     0, 0, 0, 0, 1, 2, 0, 2, 1, 1, 0, 2, 1, 1, 1, 1, 2, 0, 2, 0, 1, 2, 1, 0, 2, 2, 2,
 ];
+
 static SUM_IS_1: [u8; 27] = [
     0, 0, 1, 0, 1, 0, 0, 2, 2, 1, 0, 0, 1, 1, 2, 1, 2, 1, 2, 0, 2, 2, 1, 1, 2, 2, 0,
 ];
@@ -113,7 +114,10 @@ fn a_missing_constraint_is_not_refuted(rt: HostRuntime) -> Result<(), Fail> {
     let alloc = rt.alloc();
     let language = sums_language(&rt, alloc)?;
     let both = instance_of(&rt, alloc, &[b"x", b"y", b"z"], &[0, 1])?;
-    assert_eq!(rt; checked(&rt, alloc, &language, &both, &[0, 1, 2], sums())?, Ok(()));
+    assert_eq!(rt;
+        checked(&rt, alloc, &language, &both, &[0, 1, 2], sums())?,
+        Ok(())
+    );
     let one = instance_of(&rt, alloc, &[b"x", b"y", b"z"], &[0])?;
     let answer = checked(&rt, alloc, &language, &one, &[0, 1, 2], sums())?;
     assert_eq!(rt; answer, Err(CombFault::BadPlace { part: 1 }));
@@ -133,7 +137,10 @@ fn labels_need_not_be_one_to_one(rt: HostRuntime) -> Result<(), Fail> {
     let answer = checked(&rt, alloc, &language, &instance, &[0, 2, 0, 2], parts)?;
     assert_eq!(rt; answer, Ok(()));
     for value in 0..4 {
-        assert!(rt; !is_solution(&rt, &language, &instance, &[value]), "value {value}");
+        assert!(rt;
+            !is_solution(&rt, &language, &instance, &[value]),
+            "value {value}"
+        );
     }
     let distinct = checked(&rt, alloc, &language, &instance, &[0, 1, 2, 3], parts)?;
     assert_eq!(rt; distinct, Err(CombFault::NotImplied { part: 0 }));
