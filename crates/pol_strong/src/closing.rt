@@ -17,7 +17,7 @@ use pol_relation::{Instance, Language};
 use std::alloc::Global;
 
 /// One reference for each value of the variable, or none where a value is open.
-pub(crate) fn references(
+fn references(
     alloc: Global,
     store: &Store,
     front: &Nogood,
@@ -67,6 +67,7 @@ fn closing_references(
         → ¬ IsContradicted store.now.log front.now
         → IsOpen d store.now.log front.now v)) }
 {
+    // for its clause that nogoods have at most three pairs
     let _most = store.most();
     if masks[v as usize] != 0 || names(front, v) {
         return Ok(None);
@@ -95,7 +96,9 @@ fn delete_front(
         (OpenHere (length inst.now.variables) lang.now.domain front.now) store.old store.new) }
     ensures deleted { IfOk result (λ b. IsTrue b → length store.old.log < length store.new.log) }
 {
+    // for its clause that nogoods have at most three pairs
     let _most = store.most();
+    // for its clause that there are at most five values
     let _size = lang.domain().size();
     if let Some(_step) = store.find(front) {
         return Ok(false);
@@ -151,6 +154,7 @@ pub(crate) fn delete_empty(
     ensures left { IfOk result (λ deleted. OnFalse deleted
         ((v : ℕ) → v < length inst.now.variables → HasValue lang.now.domain store.old.log v)) }
 {
+    // for its clause that nogoods have at most three pairs
     let _most = store.most();
     let d = lang.domain().size();
     for v in 0..inst.variables() {

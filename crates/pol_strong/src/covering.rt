@@ -45,7 +45,9 @@ fn delete_uncovered(
     ensures adds { OnOk result (Adds lang.now inst.now
         (λ log. IsContradicted log (front.now ++ value_case x a)) store.old store.new) }
 {
+    // for its clause that nogoods have at most three pairs
     let _most = store.most();
+    // for its clause that there are at most five values
     let _size = lang.domain().size();
     if let Some(_step) = reference(store, front, x, a) {
         return Ok(());
@@ -106,6 +108,7 @@ fn next_rows(
 {
     let relation = lang.relation(inst.relation_of(c));
     let scope = inst.scope(c);
+    // for its clause that each row has a value for each place
     let _arity = relation.arity();
     let place = place_of(scope, x);
     if !has_row(relation, rows, place, a) {
@@ -146,6 +149,7 @@ fn cover(
     ensures adds { OnOk result (Adds lang.now inst.now
         (CoversFrom lang.now inst.now (constraint_of inst.now c) front.now low most) store.old store.new) }
 {
+    // for its clause that nogoods have at most three pairs
     let _most = store.most();
     let scope = inst.scope(c);
     let n = inst.variables();
@@ -193,6 +197,7 @@ fn cover_constraint(
 {
     let most = store.most();
     let relation = lang.relation(inst.relation_of(c));
+    // for its clause that each row has a value for each place
     let _arity = relation.arity();
     let rows = agreeing_rows(alloc, relation, inst.scope(c))?;
     if rows.as_slice().is_empty() {

@@ -21,6 +21,7 @@ fn step_with(store: &Store, part: &Nogood, v: u32, a: u8) -> Option<u32>
     ensures within { IfSome result (λ s. IsContained (nogood_at store.now.log s) (part.now ++ value_case v a)) }
     ensures none { IfNone result (IsFree store.now.log part.now (record { variable = v; value = a })) }
 {
+    // for its clause that nogoods have at most three pairs
     let _most = store.most();
     store.find(&with_pair(part, v, a))
 }

@@ -103,6 +103,7 @@ pub(crate) fn rows_with(
         → AreCases relation.now.rows scope.now front rows.now
         → AreCases relation.now.rows scope.now (front ++ value_case x a) numbers) }
 {
+    // for its clause that each row has a value for each place
     let _arity = relation.arity();
     let place = place_of(scope, x);
     let mut some = Numbers::new(alloc);

@@ -38,6 +38,7 @@ pub fn solve_nu<const K: usize>(
     ensures no_only_without_solution { IfOk result (NoOnlyWithoutSolution lang.now inst.now) }
     ensures certificate { IfOk result (NoHasCertificate (K - 1) lang.now inst.now) }
 {
+    // for its clause that the table is one of an operation
     let _domain = op.domain();
     let mut store = Store::new(alloc, inst.variables(), lang.domain(), K as u32 - 1)?;
     if cover_all(alloc, lang, inst, &mut store)? {

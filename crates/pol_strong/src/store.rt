@@ -79,6 +79,7 @@ fn clear_all(n: u32, d: Domain, filter: &mut [u8], nogood: &Nogood)
     ensures less { Clears filter.old filter.new }
     ensures cleared { IsCleared n d filter.new nogood.now }
 {
+    // for its clause that there are at most five values
     let _size = d.size();
     for i in 0..nogood.len() {
         let (x, a) = nogood.pair(i);

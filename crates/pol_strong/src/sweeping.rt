@@ -83,6 +83,7 @@ fn next_visit(
     ensures beside { IfSome result (λ next. AreBeside store.now.domain store.now.log front.now masks.now
         → AreBeside store.now.domain store.now.log (front.now ++ value_case x a) next) }
 {
+    // for its clause that nogoods have at most three pairs
     let _most = store.most();
     let Some(next) = next_masks(store, front, masks, x, a) else {
         return None;
@@ -114,6 +115,7 @@ pub(crate) fn sweep(
         (λ log. AreBeside lang.now.domain log front.now masks.now
         → AllOpenFrom (length inst.now.variables) lang.now.domain front.now low most log) store.old store.new) }
 {
+    // for its clause that nogoods have at most three pairs
     let _most = store.most();
     let d = lang.domain().size();
     if delete_by_variable(alloc, lang, inst, store, front, masks)? {
