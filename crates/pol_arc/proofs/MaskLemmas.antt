@@ -33,8 +33,7 @@ without_value d masks x a w inside bits = record {
         (λ has. subst (λ (m : ℕ). IsBitSet m b) same has, λ has. subst (λ (m : ℕ). IsBitSet m b) (sym same) has)
     by y b apart (inl here) =
         let new : get_or (set masks x w) y 0 ≡ w = ap (λ n. get_or (set masks x w) n 0) here ∙ get_or-set_same masks x w 0 inside in
-        let old : get_or masks y 0 ≡ get_or masks x 0 = ap (λ n. get_or masks n 0) here in
-        (
+        let old : get_or masks y 0 ≡ get_or masks x 0 = ap (λ n. get_or masks n 0) here in (
           λ has. subst (λ (m : ℕ). IsBitSet m b) (sym old) ((bits b).0 (subst (λ (m : ℕ). IsBitSet m b) new has)).0,
           λ has. subst (λ (m : ℕ). IsBitSet m b) (sym new) ((bits b).1 (subst (λ (m : ℕ). IsBitSet m b) old has, λ equal. apart (here, equal))),
         )

@@ -21,8 +21,7 @@ pub one_pair_is : (nogood : List Pair) (y b x a : ℕ) → length nogood ≡ 1 �
 one_pair_is [] y b x a long read same = absurd (omega arith)
 one_pair_is (p ∷ q ∷ rest) y b x a long read same = absurd (omega arith)
 one_pair_is (p ∷ []) y b x a long read same =
-    let first : p ≡ record { variable = y; value = b } = get_or_from_slice_get (p ∷ []) 0 (record { variable = y; value = b }) p read in
-    (
+    let first : p ≡ record { variable = y; value = b } = get_or_from_slice_get (p ∷ []) 0 (record { variable = y; value = b }) p read in (
       λ equal. ap (λ (r : Pair). r ∷ []) (first ∙ pair_is (record { variable = y; value = b }) x a same (eqb-true b a equal)),
       λ is. eq-eqb b a (ap (λ (r : Pair). r.value) (sym first) ∙ ap (λ (ps : List Pair). (get_or {A = Pair} ps 0 no_pair).value) is),
     )

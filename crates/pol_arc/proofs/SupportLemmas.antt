@@ -49,8 +49,7 @@ pub supports_told : (masks scope : List ℕ) (x a : ℕ) (row : List ℕ) (nogoo
     → IsTrue lies ↔ LiesIn masks scope row → IsTrue lies ↔ Supports masks scope x a row
 supports_told masks scope x a row nogood case lies long pair told is tells =
     let here : is_case scope (value_case x a) row ≡ true =
-    subst (λ (pairs : List Pair). is_case scope pairs row ≡ true) pair (sym told ∙ is) in
-    (
+    subst (λ (pairs : List Pair). is_case scope pairs row ≡ true) pair (sym told ∙ is) in (
       λ holds. supports_from_case masks scope x a row long here (tells.0 holds),
       λ supports. tells.1 supports.lies,
     )
@@ -60,8 +59,7 @@ pub supports_not : (masks scope : List ℕ) (x a : ℕ) (row : List ℕ) (nogood
     → IsTrue false ↔ Supports masks scope x a row
 supports_not masks scope x a row nogood case long pair told fails =
     let none : is_case scope (value_case x a) row ≡ false =
-    subst (λ (pairs : List Pair). is_case scope pairs row ≡ false) pair (sym told ∙ fails) in
-    (
+    subst (λ (pairs : List Pair). is_case scope pairs row ≡ false) pair (sym told ∙ fails) in (
       λ never. cc,
       λ supports. absurd (both_ways (is_case scope (value_case x a) row) none (case_from_supports masks scope x a row long supports)),
     )
@@ -107,4 +105,3 @@ case_referred log rows scope x a i row references r inside read case referred is
 pub case_skipped : (log : List StepView) (rows : List (List ℕ)) (scope : List ℕ) (x a i : ℕ) (row references : List ℕ) → i < length rows → row ≡ get_or rows i [] → is_case scope (value_case x a) row ≡ false
     → HasReferences log (value_case x a) (row_cases scope (value_case x a) (take i rows)) references → HasReferences log (value_case x a) (row_cases scope (value_case x a) (take (i + 1) rows)) references
 case_skipped log rows scope x a i row references inside read excluded referred = row_skipped log scope (value_case x a) rows i [] references inside (subst (λ (some : List ℕ). is_case scope (value_case x a) some ≡ false) read excluded) referred
-

@@ -57,8 +57,7 @@ module _ (d : ℕ) (rows : List (List ℕ)) (masks scope : List ℕ) (below : Al
   support_kept : (s : Sifted (IsOpen masks scope) rows) → (j a : ℕ) → j < length scope → IsBitSet (get_or masks (get_or scope j 0) 0) a → (row : List ℕ) × Contains s.kept row × (get_or row j 0 ≡ a)
   support_kept s j a inside bit =
       let low : a < d = set_below d (get_or masks (get_or scope j 0) 0) a (below (get_or scope j 0) 0 (known j 0 inside)) bit in
-      let found : IsSupported rows masks scope (get_or scope j 0) a = supported j a inside low bit in
-      (
+      let found : IsSupported rows masks scope (get_or scope j 0) a = supported j a inside low bit in (
         found.row,
         s.whole found.row found.listed (record { one_value = found.supports.one_value; lies = found.supports.lies }),
         found.supports.at_variable j inside refl,

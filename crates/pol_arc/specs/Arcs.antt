@@ -26,7 +26,7 @@ abbrev pub IsSupportedAt : LanguageView → InstanceView → (masks : List ℕ) 
 IsSupportedAt lang inst masks c j a =
     IsBitSet (slice_index masks (slice_index (constraint_of inst c).scope j)) a
     → IsSupported (rows_of lang (constraint_of inst c).relation) masks (constraint_of inst c).scope
-        (slice_index (constraint_of inst c).scope j) a
+    (slice_index (constraint_of inst c).scope j) a
 
 -- the constraint supports each value in the masks of the variables of its scope
 abbrev pub SupportsAll : LanguageView → InstanceView → (masks : List ℕ) → (c : ℕ) → Type 0

@@ -1,4 +1,5 @@
-//! Arc consistency of instances with its log, and instances of languages with a set function.
+//! Arc consistency of instances, with its log, and the solver of languages that a set function
+//! preserves.
 #![tactic(auto)]
 
 mod consistency;
@@ -8,3 +9,6 @@ mod width_one;
 
 pub use consistency::{Consistency, arc};
 pub use width_one::solve_width_one;
+
+#[cfg(test)]
+mod tests;

@@ -42,6 +42,7 @@ impl Pruning {
         ensures log { self.new.log ≡ self.old.log }
         ensures waits { self.new.waits.items ≡ self.old.waits.items }
     {
+        // for its clause that a domain has at most 5 values
         let _size = d.size();
         self.masks[x as usize] = without(self.masks[x as usize], a);
     }
@@ -85,7 +86,6 @@ impl Pruning {
         ensures again { OnOk result (IsDone self.new.waits.items c → length self.new.log ≤ length self.old.log) }
     {
         let d = lang.domain();
-        let _size = d.size();
         let x = inst.scope(c)[j];
         if !has_value(self.masks[x as usize], a) {
             return Ok(());
@@ -215,7 +215,12 @@ impl Pruning {
     }
 
     /// Looks at the constraints that wait, until none waits or some variable has no value left.
-    pub(crate) fn settle(&mut self, alloc: Global, lang: &Language, inst: &Instance) -> Result<(), NoMemory>
+    pub(crate) fn settle(
+        &mut self,
+        alloc: Global,
+        lang: &Language,
+        inst: &Instance,
+    ) -> Result<(), NoMemory>
         requires fits { Fits lang.now inst.now }
         requires few { length inst.now.variables ≤ 40 }
         requires pruned { IsPruned lang.now inst.now self.old.masks.items self.old.log }

@@ -1,7 +1,6 @@
 -- The items of a report of a file can be printed: their numbers are within the bounds of the format.
-use Rattle.std.proofs.Common.{◌≡◌, ℕ, ◌+◌, ◌-◌, ◌^◌, ◌<◌, ◌≤◌, List, [], ◌∷◌, length, map, get_or, take, Option, Some, None, All, refl, sym, ap, ◌∙◌, subst, arith, suc}
+use Rattle.std.proofs.Common.{◌≡◌, ℕ, ◌^◌, ◌≤◌, List, length, take, Option, Some, None, sym, subst, arith}
 use Rattle.std.specs.Prelude.{filter}
-use Rattle.std.specs.List.{range_with_len}
 use Rattle.std.proofs.Math.Nat.{one-le-pow, pow-le-pow_left, pow-le-pow_right}
 use Rattle.std.proofs.lemmas.List.{length-map, get_or_default, length-take}
 use Rattle.std.proofs.lemmas.List.FromFn.{length-map-range_with_len}
@@ -9,8 +8,8 @@ use Rattle.std.proofs.lemmas.List.Sums.{length-filter, count_by-le-length}
 use Rattle.pol_base.specs.declared.class_name.ClassName.{ClassName}
 use Rattle.pol_base.specs.declared.class_name.ClassName.TheVariants.{Constant, Semilattice, SetFunction, Majority, Nu4, Affine, Maltsev}
 use Rattle.pol_relation.specs.Relations.{LanguageView, IsLanguage, no_named, rows_of}
-use Rattle.pol_relation.specs.Instances.{InstanceView, IsSolution, constraint_of, no_constraint}
-use Rattle.pol_nogood.specs.Nogoods.{Pair, IsPair}
+use Rattle.pol_relation.specs.Instances.{InstanceView, constraint_of, no_constraint}
+use Rattle.pol_nogood.specs.Nogoods.{Pair}
 use Rattle.pol_nogood.specs.Logs.{Basis, StepView, step_at, no_step, cases_of, reading, is_case, value_case, FitsMost}
 use Rattle.pol_nogood.specs.ValidLogs.{CanRestOn, IsValidStep}
 use Rattle.pol_nogood.specs.Answers.{IsCertificate}
@@ -20,9 +19,9 @@ use Rattle.pol_optable.specs.ClassLines.{IsTable, IsSetTable, IsTableOf, Line, C
 use Rattle.pol_optable.specs.ClassLines.Line.{Beyond, Sought}
 use Rattle.pol_solve.specs.declared.answering.InstanceAnswer.{InstanceAnswer}
 use Rattle.pol_solve.specs.declared.answering.InstanceAnswer.TheVariants as answer
-use Rattle.pol_solve.specs.Answers.{most_pairs, IsLogAnswer, AnswersBy}
+use Rattle.pol_solve.specs.Answers.{IsLogAnswer, AnswersBy}
 use Rattle.pol_report.specs.declared.item.Item.{Item}
-use Rattle.pol_report.specs.Printable.{AreValues, IsShort, basis_number, IsPrintablePair, ArePrintablePairs, ArePrintableReferences, IsPrintableStep, IsPrintableLog, HasPlainYes, HasLogs, IsPrintable}
+use Rattle.pol_report.specs.Printable.{AreValues, IsShort, basis_number, IsPrintableStep, IsPrintableLog, HasPlainYes, HasLogs, IsPrintable}
 use Rattle.pol_lang.specs.Files.{IsFileLanguage, IsFileInstance}
 use Rattle.pol_cli.specs.Reports.{class_item, answer_item, IsClassItem, IsInstanceItem}
 

@@ -1,12 +1,12 @@
 -- What a reader of a report may rely on.
-use Rattle.std.proofs.Common.{◌≡◌, ℕ, ◌+◌, ◌<◌, ◌≤◌, ◌⊎◌, inl, inr, List, ◌++◌, length, map, get_or, slice_get, Option, Some, None, sym, ap, ◌∙◌, subst, arith, length-append}
+use Rattle.std.proofs.Common.{◌≡◌, ℕ, ◌+◌, ◌<◌, ◌≤◌, List, ◌++◌, length, map, get_or, slice_get, Option, Some, None, sym, ap, ◌∙◌, subst, arith, length-append}
 use Rattle.std.specs.Prelude.{IsSomeAnd, MatchOption}
 use Rattle.std.specs.List.{AllZip}
 use Rattle.std.proofs.lemmas.List.{length-map, get_or_append_left, get_or-append-add, get_or-map}
 use Rattle.std.proofs.lemmas.Option.{slice_get-get_or}
 use Rattle.std.proofs.lemmas.Slice.Zip.{AllZip-left, AllZip-long}
 use Rattle.pol_base.specs.declared.class_name.ClassName.{ClassName}
-use Rattle.pol_base.specs.declared.class_name.ClassName.TheVariants.{Constant, Semilattice, SetFunction, Majority, Nu4, Affine, Maltsev}
+use Rattle.pol_base.specs.declared.class_name.ClassName.TheVariants.{Constant}
 use Rattle.pol_relation.specs.Relations.{LanguageView}
 use Rattle.pol_relation.specs.Instances.{InstanceView, IsSolution, HasNoSolution}
 use Rattle.pol_nogood.specs.Logs.{StepView}
@@ -88,8 +88,7 @@ owed_by :
     → (item : IsInstanceItem lang inst told)
     → AnswersBy chosen lang inst item.given × (told ≡ answer_item inst.name chosen item.given)
 owed_by lang inst chosen told chooses item =
-    let same = one_choice lang item.chosen chosen item.chooses chooses in
-    (
+    let same = one_choice lang item.chosen chosen item.chooses chooses in (
       subst (λ some. AnswersBy some lang inst item.given) same item.owed,
       item.item_is ∙ ap (λ some. answer_item inst.name some item.given) same,
     )

@@ -1,15 +1,13 @@
 -- A report as it grows, item by item.
-use Rattle.std.proofs.Common.{◌≡◌, ℕ, ◌+◌, ◌<◌, ◌≤◌, List, [], ◌∷◌, ◌++◌, length, map, take, get_or, refl, sym, ap, ◌∙◌, append_assoc, append-nil}
+use Rattle.std.proofs.Common.{◌≡◌, ℕ, ◌+◌, ◌<◌, ◌≤◌, List, [], ◌∷◌, ◌++◌, length, map, take, get_or, sym, ap, ◌∙◌, append_assoc, append-nil}
 use Rattle.std.specs.Prelude.{Result, Ok, Err, OnOk}
 use Rattle.std.specs.List.{AllZip}
 use Rattle.std.proofs.lemmas.List.{take_more, take_all, map-append}
-use Rattle.pol_base.specs.declared.class_name.ClassName.{ClassName}
 use Rattle.pol_base.specs.declared.class_name.ClassName.TheVariants.{Constant}
 use Rattle.pol_text.specs.Texts.{joined, Puts}
 use Rattle.pol_text.proofs.TextLemmas.{joined-append}
 use Rattle.pol_relation.specs.Relations.{LanguageView}
 use Rattle.pol_optable.specs.ClassLines.{all_classes}
-use Rattle.pol_report.specs.declared.item.Item.{Item}
 use Rattle.pol_report.specs.Texts.{head_line, item_text}
 use Rattle.pol_lang.specs.Files.{FileView, no_instance, instance_of}
 use Rattle.pol_cli.specs.Reports.{Subject, subjects, IsItem, HasItems, AppendsItem}

@@ -1,5 +1,5 @@
 -- What a reader of a report and of a run may rely on.
-use Rattle.std.specs.Prelude.{◌≡◌, ℕ, ◌+◌, ◌<◌, ◌≤◌, ◌⊎◌, ◌↔◌, List, [], ◌++◌, length, Option, Some, None, Err}
+use Rattle.std.specs.Prelude.{◌≡◌, ℕ, ◌+◌, ◌<◌, ◌≤◌, ◌⊎◌, ◌↔◌, List, [], ◌++◌, length, Option, Some, Err}
 use Rattle.std.specs.Prelude.{IsSomeAnd, slice_get, slice_index_or}
 use Rattle.pol_base.specs.declared.class_name.ClassName.{ClassName}
 use Rattle.pol_base.specs.declared.class_name.ClassName.TheVariants.{Constant}
@@ -74,7 +74,7 @@ OthersAreRefuted =
     → HasNoSolution lang inst
     → IsInstanceItem lang inst told
     → (log : List StepView) × IsCertificate most lang inst log × AreReferredTo log
-        × (told ≡ item.NoLog inst.name class log)
+    × (told ≡ item.NoLog inst.name class log)
 
 -- where the chosen class has none, or no class is chosen, an instance is undecided
 abbrev pub OthersAreUndecided : Type 0

@@ -6,7 +6,7 @@ use Rattle.pol_nogood.specs.Nogoods.{Pair}
 use Rattle.pol_nogood.specs.Logs.{reading}
 use Rattle.pol_nogood.proofs.LogCases.{length-reading, get_or-reading}
 
-reading_push : (scope row : List ℕ) (x a : ℕ) → length row ≡ length scope → reading (scope ++ x ∷ []) (row ++ a ∷ []) ≡ reading scope row ++ record { variable = x; value = a } ∷ []
+pub reading_push : (scope row : List ℕ) (x a : ℕ) → length row ≡ length scope → reading (scope ++ x ∷ []) (row ++ a ∷ []) ≡ reading scope row ++ record { variable = x; value = a } ∷ []
 reading_push [] [] x a long = refl
 reading_push [] (b ∷ row) x a long = absurd (omega arith)
 reading_push (y ∷ scope) [] x a long = absurd (omega arith)

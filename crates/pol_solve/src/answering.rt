@@ -1,16 +1,19 @@
-ghost use Rattle.std.specs.Prelude.{ℕ, ◌≤◌, length, IfOk};
+ghost use Rattle.std.specs.Prelude.{◌≡◌, ◌-◌, ℕ, ◌≤◌, length, IfOk};
 ghost use Rattle.pol_base.specs.declared.class_name.ClassName.TheVariants as class;
 ghost use Rattle.pol_relation.specs.Relations.{LanguageView};
 ghost use Rattle.pol_relation.specs.Instances.{InstanceView, Fits};
 ghost use Rattle.pol_nogood.specs.Answers.{YesSolves, NoOnlyWithoutSolution, NoHasCertificate};
+ghost use Rattle.pol_optable.specs.Operations.{IsPolymorphism};
+ghost use Rattle.pol_optable.specs.Identities.{IsNearUnanimity};
 ghost use Rattle.pol_optable.specs.Choices.{AreTables, HasTable};
 ghost use Rattle.pol_solve.specs.Answers.{IsLogAnswer, AnswersByFirst};
 
+use crate::choosing::chosen_solution;
 use crate::solve_constant;
-use pol_arc::solve_width_one;
+use pol_arc::{Consistency, arc, solve_width_one};
 use pol_base::{ClassName, NoMemory, Values};
 use pol_nogood::{Log, LogAnswer, trimmed};
-use pol_optable::{Classes, Nu4};
+use pol_optable::{Classes, Nu4, OpTable};
 use pol_relation::{Instance, Language};
 use pol_setfn::fold;
 use pol_strong::solve_nu;
@@ -127,7 +130,7 @@ fn by_majority(
     match &classes.majority {
         Some(op) => {
             let _cells = op.cells();
-            by_log(alloc, solve_nu(alloc, lang, inst, op)?)
+            by_near_unanimity(alloc, lang, inst, op)
         }
         None => Ok(InstanceAnswer::Undecided),
     }
@@ -149,9 +152,35 @@ fn by_nu4(
     match &classes.nu4 {
         Nu4::Found(op) => {
             let _cells = op.cells();
-            by_log(alloc, solve_nu(alloc, lang, inst, op)?)
+            by_near_unanimity(alloc, lang, inst, op)
         }
         Nu4::Beyond | Nu4::Absent => Ok(InstanceAnswer::Undecided),
+    }
+}
+
+/// Answers by a near-unanimity operation: where arc consistency leaves a variable no value, by its log;
+/// where values that are chosen one by one are a solution, by these; and else by strong consistency.
+fn by_near_unanimity<const K: usize>(
+    alloc: Global,
+    lang: &Language,
+    inst: &Instance,
+    op: &OpTable<K>,
+) -> Result<InstanceAnswer, NoMemory>
+    requires some_arguments { 3 ≤ K }
+    requires few_arguments { K ≤ 4 }
+    requires near_unanimity { IsNearUnanimity op.now }
+    requires polymorphism { IsPolymorphism op.now lang.now }
+    requires domain { op.now.domain ≡ lang.now.domain }
+    requires fits { Fits lang.now inst.now }
+    requires few_variables { length inst.now.variables ≤ 40 }
+    ensures answers { IfOk result (IsLogAnswer (K - 1) lang.now inst.now) }
+{
+    match arc(alloc, lang, inst)? {
+        Consistency::Wiped(log) => by_log(alloc, LogAnswer::No(log)),
+        Consistency::Domains(masks) => match chosen_solution(alloc, lang, inst, masks.as_slice())? {
+            Some(values) => Ok(InstanceAnswer::Yes(values)),
+            None => by_log(alloc, solve_nu(alloc, lang, inst, op)?),
+        },
     }
 }
 

@@ -2,6 +2,7 @@
 #![tactic(auto)]
 
 mod answering;
+mod choosing;
 mod constant;
 
 pub use answering::{InstanceAnswer, answer};

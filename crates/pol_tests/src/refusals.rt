@@ -188,7 +188,7 @@ fn refusals_at_the_limits_on_numbers(rt: HostRuntime) -> Result<(), Fail> {
 #[test]
 fn limits_on_tuples(rt: HostRuntime) -> Result<(), Fail> {
     let alloc = rt.alloc();
-    let cases: [(&[u8], u32, u32, u32, &[u8], &[u8]); 5] = [
+    let cases: [(&[u8], u32, u32, u32, &[u8], &[u8]); 6] = [
         (
             b"polyanna 1|domain 2|relation r 6|",
             38,
@@ -204,6 +204,14 @@ fn limits_on_tuples(rt: HostRuntime) -> Result<(), Fail> {
             6,
             b"end|",
             b"polyanna-report 1|class constant 0 0|class semilattice 0 0 0 1|class set-function 0 0 0|class majority none|class nu4 beyond|class affine none|class maltsev none|end|",
+        ),
+        (
+            b"polyanna 1|domain 2|relation r 6|",
+            39,
+            2,
+            6,
+            b"relation one 1|tuple 1|instance a u v w x y z|constraint one u|constraint r u v w x y z|instance b u v w x y z|constraint one u|constraint one v|constraint r u v w x y z|end|",
+            b"polyanna-report 1|class constant none|class semilattice 0 0 0 1|class set-function 0 1 0|class majority none|class nu4 beyond|class affine none|class maltsev none|instance a yes semilattice 1 0 0 0 0 0|instance b no semilattice 4|c 0 1 0 0 0|c 1 1 1 0 0|c 2 1 0 1 7 1 1 1 1 1 1 1|v 0 0 2 0 2|end|",
         ),
         (
             b"polyanna 1|domain 3|relation r 5|",

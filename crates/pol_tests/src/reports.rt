@@ -31,7 +31,7 @@ fn reports_of_small_files(rt: HostRuntime) -> Result<(), Fail> {
         ),
         (
             b"polyanna 1|domain 2|relation neq 2|tuple 0 1|tuple 1 0|relation zero 1|tuple 0|instance p x y|constraint zero x|constraint neq x y|end|",
-            b"polyanna-report 1|class constant none|class semilattice none|class set-function none|class majority 0 0 0 1 0 1 1 1|class nu4 0 0 0 0 0 0 0 1 0 1 1 1 1 1 1 1|class affine 0 1 1 0 1 0 0 1|class maltsev 0 1 0 0 1 1 0 1|instance p undecided|end|",
+            b"polyanna-report 1|class constant none|class semilattice none|class set-function none|class majority 0 0 0 1 0 1 1 1|class nu4 0 0 0 0 0 0 0 1 0 1 1 1 1 1 1 1|class affine 0 1 1 0 1 0 0 1|class maltsev 0 1 0 0 1 1 0 1|instance p yes majority 0 1|end|",
         ),
         (
             b"polyanna 1|domain 3|relation le 2|tuple 2 2|tuple 1 1|relation e 1|instance a x y|constraint le x y|instance b x|constraint le x x|constraint e x|constraint e x|end|",
@@ -43,7 +43,7 @@ fn reports_of_small_files(rt: HostRuntime) -> Result<(), Fail> {
         ),
         (
             b"polyanna 1|domain 2|relation neq 2|tuple 0 1|tuple 1 0|instance tri x y z|constraint neq x y|constraint neq y z|constraint neq z x|end|",
-            b"polyanna-report 1|class constant none|class semilattice none|class set-function none|class majority 0 0 0 1 0 1 1 1|class nu4 0 0 0 0 0 0 0 1 0 1 1 1 1 1 1 1|class affine 0 1 1 0 1 0 0 1|class maltsev 0 1 0 0 1 1 0 1|instance tri undecided|end|",
+            b"polyanna-report 1|class constant none|class semilattice none|class set-function none|class majority 0 0 0 1 0 1 1 1|class nu4 0 0 0 0 0 0 0 1 0 1 1 1 1 1 1 1|class affine 0 1 1 0 1 0 0 1|class maltsev 0 1 0 0 1 1 0 1|instance tri no majority 11|c 0 2 0 0 1 0 0|c 0 2 0 1 1 1 0|c 1 2 1 0 2 0 0|c 1 2 1 1 2 1 0|c 2 2 0 0 2 0 0|c 2 2 0 1 2 1 0|v 2 2 0 0 1 1 2 4 3|v 2 2 0 1 1 0 2 2 5|v 0 1 1 0 2 0 7|v 0 1 1 1 2 6 1|v 1 0 2 8 9|end|",
         ),
         (
             b"polyanna 1|domain 3|relation neq 2|tuple 0 1|tuple 0 2|tuple 1 0|tuple 1 2|tuple 2 0|tuple 2 1|instance one x y|constraint neq x y|end|",
@@ -51,7 +51,7 @@ fn reports_of_small_files(rt: HostRuntime) -> Result<(), Fail> {
         ),
         (
             b"polyanna 1|domain 2|relation h 3|tuple 0 0 0|tuple 0 0 1|tuple 0 1 0|tuple 0 1 1|tuple 1 0 0|tuple 1 0 1|tuple 1 1 1|relation zero 1|tuple 0|relation one 1|tuple 1|instance a p q r|constraint one p|constraint one q|constraint h p q r|constraint zero r|instance b p q r|constraint one p|constraint one q|constraint h p q r|end|",
-            b"polyanna-report 1|class constant none|class semilattice 0 0 0 1|class set-function 0 1 0|class majority none|class nu4 none|class affine none|class maltsev none|instance a undecided|instance b undecided|end|",
+            b"polyanna-report 1|class constant none|class semilattice 0 0 0 1|class set-function 0 1 0|class majority none|class nu4 none|class affine none|class maltsev none|instance a no semilattice 5|c 0 1 0 0 0|c 1 1 1 0 0|c 2 1 2 0 3 0 0 1|c 3 1 2 1 0|v 2 0 2 2 3|instance b yes semilattice 1 1 1|end|",
         ),
         (
             b"polyanna 1|domain 3|relation s0 3|tuple 0 0 0|tuple 0 1 2|tuple 0 2 1|tuple 1 0 2|tuple 1 1 1|tuple 1 2 0|tuple 2 0 1|tuple 2 1 0|tuple 2 2 2|relation s1 3|tuple 0 0 1|tuple 0 1 0|tuple 0 2 2|tuple 1 0 0|tuple 1 1 2|tuple 1 2 1|tuple 2 0 2|tuple 2 1 1|tuple 2 2 0|relation zero 1|tuple 0|instance i x y z|constraint s0 x y z|constraint s1 x y z|instance j x y|constraint zero x|constraint s1 x x y|end|",
@@ -82,15 +82,57 @@ fn reports_of_further_classes(rt: HostRuntime) -> Result<(), Fail> {
         ),
         (
             b"polyanna 1|domain 3|relation pp 3|tuple 0 0 0|tuple 0 2 2|tuple 2 0 2|tuple 2 2 0|relation one 1|tuple 1|instance a x|constraint one x|instance b x y|constraint one x|constraint pp x y y|end|",
-            b"polyanna-report 1|class constant none|class semilattice none|class set-function 0 1 0 0 0 0 0|class majority none|class nu4 none|class affine none|class maltsev 0 1 2 0 0 0 2 0 0 1 0 0 0 1 2 0 0 1 2 0 0 0 2 0 0 1 2|instance a undecided|instance b undecided|end|",
+            b"polyanna-report 1|class constant none|class semilattice none|class set-function 0 1 0 0 0 0 0|class majority none|class nu4 none|class affine none|class maltsev 0 1 2 0 0 0 2 0 0 1 0 0 0 1 2 0 0 1 2 0 0 0 2 0 0 1 2|instance a yes set-function 1|instance b no set-function 4|c 0 1 0 0 0|c 0 1 0 2 0|c 1 1 0 1 0|v 0 0 3 0 2 1|end|",
         ),
         (
             b"polyanna 1|domain 3|relation qq 3|tuple 0 0 0|tuple 0 0 1|tuple 0 1 0|tuple 0 1 1|tuple 1 0 0|tuple 1 0 1|tuple 1 1 0|relation nn 2|tuple 0 2|tuple 2 0|instance a x y|constraint qq x x x|constraint nn x y|instance b x|constraint qq x x x|constraint nn x x|end|",
-            b"polyanna-report 1|class constant none|class semilattice none|class set-function none|class majority none|class nu4 0 0 0 0 0 0 0 0 0 0 0 0 0 1 0 0 0 0 0 0 0 0 0 0 0 0 2 0 0 0 0 1 0 0 0 0 0 1 0 1 1 1 0 1 0 0 0 0 0 1 0 0 0 2 0 0 2 0 0 0 2 0 2 0 0 0 0 1 0 0 0 2 2 0 2 0 0 2 2 2 2|class affine none|class maltsev none|instance a undecided|instance b undecided|end|",
+            b"polyanna-report 1|class constant none|class semilattice none|class set-function none|class majority none|class nu4 0 0 0 0 0 0 0 0 0 0 0 0 0 1 0 0 0 0 0 0 0 0 0 0 0 0 2 0 0 0 0 1 0 0 0 0 0 1 0 1 1 1 0 1 0 0 0 0 0 1 0 0 0 2 0 0 2 0 0 0 2 0 2 0 0 0 0 1 0 0 0 2 2 0 2 0 0 2 2 2 2|class affine none|class maltsev none|instance a yes nu4 0 2|instance b no nu4 1|c 1 0 0|end|",
         ),
     ];
     for (input, report) in cases {
         assert_written(&rt, alloc, lines(alloc, input)?.as_slice(), report)?;
     }
     Ok(())
+}
+
+#[test]
+fn answers_at_the_limits(rt: HostRuntime) -> Result<(), Fail> {
+    let alloc = rt.alloc();
+    let cases: [(&[u8], &[u8]); 3] = [
+        (
+            b"polyanna 1|domain 1|relation r 2|tuple 0 0|relation e 1|instance a x y|instance b x y|constraint r y x|constraint r x x|instance c x|constraint r x x|constraint e x|end|",
+            b"polyanna-report 1|class constant 0|class semilattice 0|class set-function 0|class majority 0|class nu4 0|class affine none|class maltsev 0|instance a yes constant 0 0|instance b yes constant 0 0|instance c no constant 1|c 1 0 0|end|",
+        ),
+        (
+            b"polyanna 1|domain 2|relation s 6|tuple 0 1 1 1 1 0|tuple 0 1 1 1 1 1|tuple 1 1 1 1 1 0|relation c 6|tuple 0 0 0 0 0 0|tuple 1 1 1 1 1 1|instance a x|constraint c x x x x x x|instance b x|constraint c x x x x x x|constraint s x x x x x x|end|",
+            b"polyanna-report 1|class constant none|class semilattice 0 0 0 1|class set-function 0 1 0|class majority 0 0 0 1 0 1 1 1|class nu4 0 0 0 0 0 0 0 1 0 0 0 1 0 1 1 1|class affine none|class maltsev none|instance a yes semilattice 0|instance b no semilattice 3|c 1 1 0 0 0|c 1 1 0 1 0|v 0 0 2 0 1|end|",
+        ),
+        (
+            b"polyanna 1|domain 3|relation qq 3|tuple 0 0 0|tuple 0 0 1|tuple 0 1 0|tuple 0 1 1|tuple 1 0 0|tuple 1 0 1|tuple 1 1 0|relation nn 2|tuple 0 2|tuple 2 0|instance forty x0 x1 x2 x3 x4 x5 x6 x7 x8 x9 x10 x11 x12 x13 x14 x15 x16 x17 x18 x19 x20 x21 x22 x23 x24 x25 x26 x27 x28 x29 x30 x31 x32 x33 x34 x35 x36 x37 x38 x39|end|",
+            b"polyanna-report 1|class constant none|class semilattice none|class set-function none|class majority none|class nu4 0 0 0 0 0 0 0 0 0 0 0 0 0 1 0 0 0 0 0 0 0 0 0 0 0 0 2 0 0 0 0 1 0 0 0 0 0 1 0 1 1 1 0 1 0 0 0 0 0 1 0 0 0 2 0 0 2 0 0 0 2 0 2 0 0 0 0 1 0 0 0 2 2 0 2 0 0 2 2 2 2|class affine none|class maltsev none|instance forty yes nu4 0 0 0 0 0 0 0 0 0 0 0 0 0 0 0 0 0 0 0 0 0 0 0 0 0 0 0 0 0 0 0 0 0 0 0 0 0 0 0 0|end|",
+        ),
+    ];
+    for (input, report) in cases {
+        assert_written(&rt, alloc, lines(alloc, input)?.as_slice(), report)?;
+    }
+    Ok(())
+}
+
+#[test]
+fn an_empty_relation_behind_255_constraints(rt: HostRuntime) -> Result<(), Fail> {
+    let alloc = rt.alloc();
+    let mut input = lines(
+        alloc,
+        b"polyanna 1|domain 2|relation neq 2|tuple 0 1|tuple 1 0|relation e 1|instance z x y|",
+    )?;
+    for _ in 0..255 {
+        input.append(b"constraint neq x y\n")?;
+    }
+    input.append(b"constraint e x\nend\n")?;
+    assert_written(
+        &rt,
+        alloc,
+        input.as_slice(),
+        b"polyanna-report 1|class constant none|class semilattice none|class set-function none|class majority 0 0 0 1 0 1 1 1|class nu4 0 0 0 0 0 0 0 1 0 1 1 1 1 1 1 1|class affine 0 1 1 0 1 0 0 1|class maltsev 0 1 0 0 1 1 0 1|instance z no majority 1|c 255 0 0|end|",
+    )
 }

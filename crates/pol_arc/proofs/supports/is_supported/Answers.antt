@@ -15,11 +15,11 @@ loop-i-preserved c =
     let x = get_or scope c.args.j 0 in
     let place : c.args.j < length scope = omega (arith, c.requires.place, ap length c.scope-scope.ensures.scope) in
     none_more rows masks scope x c.args.a c.loop-i.i c.loop-i.invariant (λ supports.
-        let here : Supports masks scope x c.args.a c.row-row.result.now = subst (Supports masks scope x c.args.a) (sym c.row-row.ensures.row) supports in
-        elim c.else-row-j.branch [
-          | else-row-j-via-then-row-j+else-supports w ↦ iff_false w.supports.ensures.supports w.if-supports.false here
-          | else-row-j-via-else-row-j w ↦ w.if-row-j.false (here.at_variable c.args.j place refl)
-        ])
+    let here : Supports masks scope x c.args.a c.row-row.result.now = subst (Supports masks scope x c.args.a) (sym c.row-row.ensures.row) supports in
+    elim c.else-row-j.branch [
+      | else-row-j-via-then-row-j+else-supports w ↦ iff_false w.supports.ensures.supports w.if-supports.false here
+      | else-row-j-via-else-row-j w ↦ w.if-row-j.false (here.at_variable c.args.j place refl)
+    ])
 
 pub returns : goal.returns
 returns c =

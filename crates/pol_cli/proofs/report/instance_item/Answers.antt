@@ -1,4 +1,4 @@
-use Rattle.std.proofs.Common.{◌≡◌, ◌∙◌, ap}
+use Rattle.std.proofs.Common.{◌∙◌, ap}
 use Rattle.pol_optable.proofs.ChoiceLemmas.{first_is_chosen}
 use Rattle.pol_cli.specs.Reports.{answer_item}
 use Rattle.pol_cli.proofs.report.instance_item.Goals as goal

@@ -1,4 +1,4 @@
-use Rattle.std.proofs.Common.{◌++◌, subst, sym, get_or}
+use Rattle.std.proofs.Common.{subst, sym, get_or}
 use Rattle.pol_base.specs.declared.class_name.ClassName.TheVariants.{Constant}
 use Rattle.pol_optable.specs.ClassLines.{all_classes}
 use Rattle.pol_optable.specs.Choices.{line_in}

@@ -7,8 +7,7 @@ returns-in_ok-trimmed-in-No c =
     let part = c.in_ok-trimmed-in-No.ensures in
     record {
       answers = λ most lang inst yes none certificate.
-          (let valid = subst (NoHasCertificate most lang inst) c.in-No.is certificate in
-          (
+          (let valid = subst (NoHasCertificate most lang inst) c.in-No.is certificate in (
             subst (NoOnlyWithoutSolution lang inst) c.in-No.is none,
             record { valid = part.valid lang inst valid.valid; fits = part.fits most valid.fits },
             part.needed,

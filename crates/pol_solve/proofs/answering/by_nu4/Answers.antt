@@ -5,13 +5,8 @@ use Rattle.pol_optable.specs.Choices.{HoldsNoOther, nu4_line}
 use Rattle.pol_solve.proofs.FoundTables.{served}
 use Rattle.pol_solve.proofs.answering.by_nu4.Goals as goal
 
-pub solve_nu-requires : goal.solve_nu-requires
-solve_nu-requires c =
+pub by_near_unanimity-requires : goal.by_near_unanimity-requires
+by_near_unanimity-requires c =
     let table = subst (λ found. HoldsNoOther Nu4 c.args.lang.now (nu4_line found)) c.in-Found.is (c.requires.tables Nu4) in
     let serving = served IsNearUnanimity 3 c.args.lang.now c.in-Found.op c.domain-domain.ensures.language c.cells-cells.ensures.table table in
-    (omega arith, (omega arith, (omega arith, (c.requires.fits, (c.requires.few_variables, (serving.same_domain, (serving.satisfies, serving.preserves)))))))
-
-pub returns-in_ok-solve_nu-in-Found : goal.returns-in_ok-solve_nu-in-Found
-returns-in_ok-solve_nu-in-Found c =
-    let given = c.in_ok-solve_nu-in-Found.ensures in
-    record { answers = λ holds. c.by_log.ensures.answers 3 c.args.lang.now c.args.inst.now given.yes given.no_only_without_solution given.certificate }
+    (omega arith, (omega arith, (omega arith, (serving.satisfies, (serving.preserves, (serving.same_domain, (c.requires.fits, c.requires.few_variables)))))))

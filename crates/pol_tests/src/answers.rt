@@ -1,0 +1,248 @@
+ghost use Rattle.std.specs.Prelude.{◌≡◌, length};
+ghost use Rattle.pol_relation.specs.Instances.{Fits};
+ghost use Rattle.pol_optable.specs.Choices.{AreTables};
+
+use crate::harness::lines;
+use pol_base::{ClassName, NoMemory, advance, cells, digit};
+use pol_classify::classify;
+use pol_lang::{File, read_file};
+use pol_nogood::check_log;
+use pol_optable::Classes;
+use pol_relation::{Instance, Language};
+use pol_solve::{InstanceAnswer, answer};
+use std::alloc::Global;
+use std::process::Abort;
+use std::test::Fail;
+
+/// A constraint on three variables: the number of its relation, and the number that its scope writes in
+/// base three, the last place first.
+type Candidate = (u32, u32);
+
+#[test]
+fn instances_of_constants(rt: HostRuntime) -> Result<(), Fail> {
+    let cases: [(&[u8], usize); 2] = [
+        (
+            b"polyanna 1|domain 2|relation never 1|relation or 2|tuple 0 1|tuple 1 0|tuple 1 1|end|",
+            3,
+        ),
+        (
+            b"polyanna 1|domain 3|relation le 2|tuple 0 0|tuple 0 1|tuple 0 2|tuple 1 1|tuple 1 2|tuple 2 2|relation never 2|end|",
+            2,
+        ),
+    ];
+    for (language, most) in cases {
+        assert_answers(&rt, rt.alloc(), language, ClassName::Constant, most)?;
+    }
+    Ok(())
+}
+
+#[test]
+fn instances_of_semilattice_operations(rt: HostRuntime) -> Result<(), Fail> {
+    let cases: [(&[u8], usize); 2] = [
+        (
+            b"polyanna 1|domain 2|relation h 3|tuple 0 0 0|tuple 0 0 1|tuple 0 1 0|tuple 0 1 1|tuple 1 0 0|tuple 1 0 1|tuple 1 1 1|relation zero 1|tuple 0|relation one 1|tuple 1|end|",
+            2,
+        ),
+        (
+            b"polyanna 1|domain 3|relation lt 2|tuple 0 1|tuple 0 2|tuple 1 2|relation low 1|tuple 0|tuple 1|end|",
+            3,
+        ),
+    ];
+    for (language, most) in cases {
+        assert_answers(&rt, rt.alloc(), language, ClassName::Semilattice, most)?;
+    }
+    Ok(())
+}
+
+#[test]
+fn instances_of_set_functions(rt: HostRuntime) -> Result<(), Fail> {
+    let cases: [(&[u8], usize); 2] = [
+        (
+            b"polyanna 1|domain 3|relation pp 3|tuple 0 0 0|tuple 0 2 2|tuple 2 0 2|tuple 2 2 0|relation one 1|tuple 1|end|",
+            2,
+        ),
+        (
+            b"polyanna 1|domain 4|relation pp 3|tuple 0 0 0|tuple 0 2 2|tuple 2 0 2|tuple 2 2 0|relation next 2|tuple 1 0|tuple 1 3|end|",
+            2,
+        ),
+    ];
+    for (language, most) in cases {
+        assert_answers(&rt, rt.alloc(), language, ClassName::SetFunction, most)?;
+    }
+    Ok(())
+}
+
+#[test]
+fn instances_of_majority_operations(rt: HostRuntime) -> Result<(), Fail> {
+    let cases: [(&[u8], usize); 3] = [
+        (
+            b"polyanna 1|domain 2|relation neq 2|tuple 0 1|tuple 1 0|relation zero 1|tuple 0|end|",
+            3,
+        ),
+        (
+            b"polyanna 1|domain 2|relation or 2|tuple 0 1|tuple 1 0|tuple 1 1|relation nand 2|tuple 0 0|tuple 0 1|tuple 1 0|end|",
+            3,
+        ),
+        (
+            b"polyanna 1|domain 3|relation turn 2|tuple 0 1|tuple 1 2|tuple 2 0|relation some 1|tuple 0|tuple 1|end|",
+            3,
+        ),
+    ];
+    for (language, most) in cases {
+        assert_answers(&rt, rt.alloc(), language, ClassName::Majority, most)?;
+    }
+    Ok(())
+}
+
+#[test]
+fn instances_of_operations_of_arity_four(rt: HostRuntime) -> Result<(), Fail> {
+    let cases: [(&[u8], usize); 2] = [
+        (
+            b"polyanna 1|domain 3|relation qq 3|tuple 0 0 0|tuple 0 0 1|tuple 0 1 0|tuple 0 1 1|tuple 1 0 0|tuple 1 0 1|tuple 1 1 0|relation nn 2|tuple 0 2|tuple 2 0|end|",
+            2,
+        ),
+        (
+            b"polyanna 1|domain 4|relation qq 3|tuple 0 0 0|tuple 0 0 1|tuple 0 1 0|tuple 0 1 1|tuple 1 0 0|tuple 1 0 1|tuple 1 1 0|relation nn 2|tuple 0 3|tuple 3 0|relation some 1|tuple 1|tuple 3|end|",
+            2,
+        ),
+    ];
+    for (language, most) in cases {
+        assert_answers(&rt, rt.alloc(), language, ClassName::Nu4, most)?;
+    }
+    Ok(())
+}
+
+/// The file that is written with a bar for each LF.
+fn read(rt: &impl Abort, alloc: Global, text: &[u8]) -> Result<File, Fail> {
+    let bytes = lines(alloc, text)?;
+    assert!(rt; bytes.as_slice().len() <= 1 << 28);
+    let (file, _rest) = read_file(alloc, bytes.as_slice())?;
+    Ok(file)
+}
+
+/// Each instance of three variables with at most so many constraints of the language is answered, by the
+/// class: with a solution, or with a log where the list of all assignments has none.
+fn assert_answers(
+    rt: &impl Abort,
+    alloc: Global,
+    language: &[u8],
+    class: ClassName,
+    most: usize,
+) -> Result<(), Fail> {
+    let file = read(rt, alloc, language)?;
+    let classes = classify(alloc, file.lang())?;
+    assert_eq!(rt; classes.first(), Some(class));
+    let candidates = candidates(alloc, file.lang())?;
+    let count = candidates.len() as u32 + 1;
+    let mut picks = [0u32; 3];
+    assert!(rt; most <= 3);
+    loop {
+        let inst = instance(rt, alloc, file.lang(), candidates.as_slice(), &picks[..most])?;
+        assert!(rt; inst.fits(file.lang()) && inst.variables() == 3);
+        assert!(rt; is_answered(alloc, file.lang(), &inst, &classes)?, "at {picks:?}");
+        if !advance(&mut picks[..most], count) {
+            return Ok(());
+        }
+    }
+}
+
+/// All constraints on three variables.
+fn candidates(alloc: Global, lang: &Language) -> Result<Vec<Candidate>, Fail> {
+    let mut all = Vec::new(alloc);
+    for relation in 0..lang.len() {
+        for scope in 0..3u32.pow(lang.relation(relation).arity()) {
+            all.push((relation, scope))?;
+        }
+    }
+    Ok(all)
+}
+
+/// The three variables with the constraints of these numbers. A number behind all is of none.
+fn instance(
+    rt: &impl Abort,
+    alloc: Global,
+    lang: &Language,
+    candidates: &[Candidate],
+    picks: &[u32],
+) -> Result<Instance, Fail> {
+    let mut inst = Instance::new(alloc, b"i")?;
+    for name in [b"x", b"y", b"z"] {
+        assert!(rt; inst.variables() < 3);
+        inst.add_variable(name)?;
+    }
+    for pick in picks {
+        if let Some((relation, scope)) = candidates.get(*pick as usize) {
+            assert!(rt; *relation < lang.len());
+            add_constraint(rt, &mut inst, *relation, lang.relation(*relation).arity(), *scope)?;
+        }
+    }
+    Ok(inst)
+}
+
+fn add_constraint(
+    rt: &impl Abort,
+    inst: &mut Instance,
+    relation: u32,
+    arity: u32,
+    number: u32,
+) -> Result<(), Fail> {
+    let mut scope = [0u32; 6];
+    let mut rest = number;
+    for x in scope.iter_mut() {
+        *x = rest % 3;
+        rest /= 3;
+    }
+    let scope = scope.get(..arity as usize).ok_or("a scope")?;
+    assert!(rt; !scope.is_empty() && scope.iter().all(|x| *x < inst.variables()));
+    assert!(rt; inst.constraints() < 3);
+    inst.add_constraint(relation, scope)?;
+    Ok(())
+}
+
+/// Whether the answer is a solution, or a valid log where the list of all assignments has no solution.
+fn is_answered(
+    alloc: Global,
+    lang: &Language,
+    inst: &Instance,
+    classes: &Classes,
+) -> Result<bool, NoMemory>
+    requires fits { Fits lang.now inst.now }
+    requires three { length inst.now.variables ≡ 3 }
+    requires tables { AreTables lang.now classes.now }
+{
+    Ok(match answer(alloc, lang, inst, classes)? {
+        InstanceAnswer::Yes(values) => is_solution(lang, inst, values.as_slice()),
+        InstanceAnswer::NoLog(log) => {
+            check_log(lang, inst, &log).is_ok() && !has_solution(lang, inst)
+        }
+        InstanceAnswer::Undecided => false,
+    })
+}
+
+/// Whether the values are a solution.
+fn is_solution(lang: &Language, inst: &Instance, values: &[u8]) -> bool
+    requires fits { Fits lang.now inst.now }
+{
+    let size = lang.domain().size();
+    values.len() == inst.variables() as usize
+        && values.iter().all(|value| *value < size)
+        && inst.is_solution(lang, values)
+}
+
+/// Whether one of all assignments is a solution.
+fn has_solution(lang: &Language, inst: &Instance) -> bool
+    requires fits { Fits lang.now inst.now }
+    requires three { length inst.now.variables ≡ 3 }
+{
+    let d = lang.domain();
+    let Some(count) = cells(d, 3) else {
+        return false;
+    };
+    for cell in 0..count {
+        let values = [digit(d, 3, cell, 0), digit(d, 3, cell, 1), digit(d, 3, cell, 2)];
+        if inst.is_solution(lang, &values) {
+            return true;
+        }
+    }
+    false
+}
