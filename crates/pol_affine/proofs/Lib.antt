@@ -1,0 +1,5 @@
+pub mod LabelRows
+pub mod Weights
+pub mod UsedParts
+pub mod PlacedLemmas
+pub mod SystemLemmas
