@@ -51,21 +51,23 @@ row_of labels rows x found =
       same = sym (get_or-map (labels_of labels) rows k [] x inside) ∙ found.2;
     }
 
--- the labels of what the operation makes of three tuples are x - y + z of theirs
-mixed_image : (f : Operation) (d n : ℕ) (labels a b c : List ℕ) → f.domain ≡ d → IsAffineBy labels f → IsTuple d n a → IsTuple d n b → IsTuple d n c
-    → labels_of labels (image f n (a ∷ b ∷ c ∷ [])) ≡ mixed d n (labels_of labels a) (labels_of labels b) (labels_of labels c)
-mixed_image f d n labels a b c same affine is_a is_b is_c = ext_get_or 0 (labels_of labels (map value range)) (map sum range) long at
-  where
-    abbrev range : List ℕ
-    range = range_with_len 0 n
-    abbrev value : ℕ → ℕ
-    value place = value_at f (column (a ∷ b ∷ c ∷ []) place)
-    abbrev sum : ℕ → ℕ
-    sum v = (get_or (labels_of labels a) v 0 + (d - get_or (labels_of labels b) v 0) + get_or (labels_of labels c) v 0) % d
-    long : length (labels_of labels (map value range)) ≡ length (map sum range)
-    long = length-labels labels (map value range) ∙ (length-map range value ∙ sym (length-map range sum))
-    at : (i : ℕ) → i < length (labels_of labels (map value range)) → get_or (labels_of labels (map value range)) i 0 ≡ get_or (map sum range) i 0
-    at i inside =
+same_sum : (d x y z x' y' z' : ℕ) → x ≡ x' → y ≡ y' → z ≡ z' → (x + (d - y) + z) % d ≡ affine_sum d x' y' z'
+same_sum d x y z x' y' z' first second third = ap (λ u. (u + (d - y) + z) % d) first ∙ (ap (λ u. (x' + (d - u) + z) % d) second ∙ ap (λ u. (x' + (d - y') + u) % d) third)
+
+module _ (f : Operation) (d n : ℕ) (labels a b c : List ℕ) where
+  abbrev value : ℕ → ℕ
+  value place = value_at f (column (a ∷ b ∷ c ∷ []) place)
+
+  abbrev sum : ℕ → ℕ
+  sum v = (get_or (labels_of labels a) v 0 + (d - get_or (labels_of labels b) v 0) + get_or (labels_of labels c) v 0) % d
+
+  -- the labels of what the operation makes of three tuples are x - y + z of theirs
+  mixed_image : f.domain ≡ d → IsAffineBy labels f → IsTuple d n a → IsTuple d n b → IsTuple d n c
+      → labels_of labels (image f n (a ∷ b ∷ c ∷ [])) ≡ mixed d n (labels_of labels a) (labels_of labels b) (labels_of labels c)
+  mixed_image same affine is_a is_b is_c =
+      let range = range_with_len 0 n in
+      let long = length-labels labels (map value range) ∙ (length-map range value ∙ sym (length-map range sum)) in
+      ext_get_or 0 (labels_of labels (map value range)) (map sum range) long (λ i inside.
         let within : i < n = omega (arith, inside, length-labels labels (map value range), length-map range value, length-range_with_len 0 n) in
         let here : i < length (map value range) = omega (arith, within, length-map range value, length-range_with_len 0 n) in
         let in_a : i < length a = omega (arith, within, is_a.long) in
@@ -74,16 +76,16 @@ mixed_image f d n labels a b c same affine is_a is_b is_c = ext_get_or 0 (labels
         let x = get_or a i 0 in
         let y = get_or b i 0 in
         let z = get_or c i 0 in
-        let summed = affine.sums x y z (omega (arith, same, is_a.below i 0 in_a)) (omega (arith, same, is_b.below i 0 in_b)) (omega (arith, same, is_c.below i 0 in_c)) in
+        let x_below : x < f.domain = omega (arith, same, is_a.below i 0 in_a) in
+        let y_below : y < f.domain = omega (arith, same, is_b.below i 0 in_b) in
+        let z_below : z < f.domain = omega (arith, same, is_c.below i 0 in_c) in
+        let summed = affine.sums x y z x_below y_below z_below in
         read-labels labels (map value range) i here
         ∙ (ap (λ v. get_or labels v 0) (get_or-map-range_with_len value 0 n i i 0 within (omega arith))
         ∙ (summed
         ∙ (ap (λ e. affine_sum e (get_or labels x 0) (get_or labels y 0) (get_or labels z 0)) same
-        ∙ (sym (same_sum (read-labels labels a i in_a) (read-labels labels b i in_b) (read-labels labels c i in_c))
-        ∙ sym (get_or-map-range_with_len sum 0 n i i 0 within (omega arith))))))
-      where
-        same_sum : {x y z x' y' z' : ℕ} → x ≡ x' → y ≡ y' → z ≡ z' → (x + (d - y) + z) % d ≡ affine_sum d x' y' z'
-        same_sum {x} {y} {z} {x'} {y'} {z'} first second third = ap (λ u. (u + (d - y) + z) % d) first ∙ (ap (λ u. (x' + (d - u) + z) % d) second ∙ ap (λ u. (x' + (d - y') + u) % d) third)
+        ∙ (sym (same_sum d _ _ _ _ _ _ (read-labels labels a i in_a) (read-labels labels b i in_b) (read-labels labels c i in_c))
+        ∙ sym (get_or-map-range_with_len sum 0 n i i 0 within (omega arith)))))))
 
 module _ (labels : List ℕ) (r : RelationView) (is : IsRelation r) (labelling : IsLabelling r.domain labels) where
   row_tuple : (row : List ℕ) → Contains r.rows row → IsTuple r.domain r.arity row

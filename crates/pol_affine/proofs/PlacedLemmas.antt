@@ -32,12 +32,12 @@ module _ (inst : InstanceView) (tables : List (List EquationView)) where
   -- and what holds of all holds of those of each constraint
   pub placed-each : (Q : PlacedView → Type 0) (count c : ℕ) → c < count → All Q (placed_in inst tables count) → All (λ (e : EquationView). Q (placed_at c e)) (equations_at inst tables c)
   placed-each Q zero c less all = absurd (omega arith)
-  placed-each Q (suc last) c less all = by (cases_eq c last)
+  placed-each Q (suc last) c less all = by (cases_eq c last) (λ before. placed-each Q last c before (All-front Q (placed_in inst tables last) (map (placed_at last) (equations_at inst tables last)) all))
     where
-      by : (c ≡ last) ⊎ (c ≡ last → ⊥) → All (λ (e : EquationView). Q (placed_at c e)) (equations_at inst tables c)
-      by (inl same) = subst (λ k. All (λ (e : EquationView). Q (placed_at k e)) (equations_at inst tables k)) (sym same)
+      by : (c ≡ last) ⊎ (c ≡ last → ⊥) → (c < last → All (λ (e : EquationView). Q (placed_at c e)) (equations_at inst tables c)) → All (λ (e : EquationView). Q (placed_at c e)) (equations_at inst tables c)
+      by (inl same) earlier = subst (λ k. All (λ (e : EquationView). Q (placed_at k e)) (equations_at inst tables k)) (sym same)
           (All-mapped Q (placed_at last) (equations_at inst tables last) (All-behind Q (placed_in inst tables last) (map (placed_at last) (equations_at inst tables last)) all))
-      by (inr other) = placed-each Q last c (omega arith) (All-front Q (placed_in inst tables last) (map (placed_at last) (equations_at inst tables last)) all)
+      by (inr other) earlier = earlier (omega (arith, less, other))
 
   module _ (bound : ℕ) (few : (c : ℕ) → c < bound → length (equations_at inst tables c) ≤ 7) where
     pub length-placed : (count : ℕ) → count ≤ bound → length (placed_in inst tables count) ≤ 7 * count
@@ -78,7 +78,7 @@ module _ (inst : InstanceView) (tables : List (List EquationView)) where
 
     pub count-placed : (k count : ℕ) → count ≤ bound → count_at k (placed_in inst tables count) ≤ 7
     count-placed k zero within = omega arith
-    count-placed k (suc c) within = by (cases_eq c k)
+    count-placed k (suc c) within = by (cases_eq c k) (count-placed k c (omega arith))
       where
         split : count_at k (placed_in inst tables (suc c)) ≡ count_at k (placed_in inst tables c) + count_at k (map (placed_at c) (equations_at inst tables c))
         split = sum_by-append (λ (p : PlacedView). if eqb p.constraint k then 1 else 0) (placed_in inst tables c) (map (placed_at c) (equations_at inst tables c))
@@ -88,6 +88,6 @@ module _ (inst : InstanceView) (tables : List (List EquationView)) where
         other_step a b s sum first second = omega arith
         few_more : (a b : ℕ) → a ≤ b → b ≤ 7 → a ≤ 7
         few_more a b first second = omega arith
-        by : (c ≡ k) ⊎ (c ≡ k → ⊥) → count_at k (placed_in inst tables (suc c)) ≤ 7
-        by (inl same) = step _ _ _ split (count-later k c (omega (arith, same))) (few_more _ _ (count-map-most k c (equations_at inst tables c)) (few c (omega arith)))
-        by (inr other) = other_step _ _ _ split (count-placed k c (omega arith)) (count-map-other k c other (equations_at inst tables c))
+        by : (c ≡ k) ⊎ (c ≡ k → ⊥) → count_at k (placed_in inst tables c) ≤ 7 → count_at k (placed_in inst tables (suc c)) ≤ 7
+        by (inl same) before = step _ _ _ split (count-later k c (omega (arith, same))) (few_more _ _ (count-map-most k c (equations_at inst tables c)) (few c (omega arith)))
+        by (inr other) before = other_step _ _ _ split before (count-map-other k c other (equations_at inst tables c))

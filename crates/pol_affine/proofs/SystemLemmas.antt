@@ -1,7 +1,8 @@
 -- The system of an instance: common solutions are the labels of solutions, and a clash is a valid combination.
-use Rattle.std.proofs.Common.{◌≡◌, ◌≢◌, ℕ, ◌+◌, ◌*◌, ◌%◌, ◌<◌, ◌≤◌, List, [], ◌∷◌, length, get_or, map, All, Contains, refl, sym, ap, ◌∙◌, subst, arith}
+use Rattle.std.proofs.Common.{◌≡◌, ◌≢◌, ℕ, ◌+◌, ◌*◌, ◌%◌, ◌<◌, ◌≤◌, ◌⊎◌, inl, inr, List, [], ◌∷◌, ◌++◌, length, get_or, map, All, Contains, refl, sym, ap, ◌∙◌, subst, arith}
 use Rattle.std.specs.List.{count_by}
-use Rattle.std.proofs.lemmas.List.{length-map, get_or-map, get_or_default}
+use Rattle.std.proofs.lemmas.Bool.{cases_eq}
+use Rattle.std.proofs.lemmas.List.{length-map, length_push, get_or-map, get_or_default, get_or_push, get_or_append_left}
 use Rattle.std.proofs.lemmas.List.Elements.{All-map, All-head, All-tail}
 use Rattle.pol_base.specs.Tuples.{IsTuple}
 use Rattle.pol_relation.specs.Relations.{LanguageView, IsLanguage, IsRelationOver, relation_of, rows_of, no_named}
@@ -19,6 +20,21 @@ use Rattle.pol_affine.specs.Answers.{IsSumCertificate}
 use Rattle.pol_affine.proofs.Weights.{length-weights, weights-below, weights-read}
 use Rattle.pol_affine.proofs.UsedParts.{used-all, used-few, used-sum, used-right}
 use Rattle.pol_affine.proofs.PlacedLemmas.{placed-all, placed-each, length-placed, count-placed}
+
+-- the equations of one more relation
+pub described-more : (labels : List ℕ) (lang : LanguageView) (inst : InstanceView) (tables : List (List EquationView)) (r : ℕ) (equations : List EquationView)
+    → length tables ≡ r → DescribeUsed labels lang inst tables
+    → ((c : ℕ) → c < length inst.constraints → (constraint_of inst c).relation ≡ r → Describes labels (relation_of lang r) equations)
+    → DescribeUsed labels lang inst (tables ++ equations ∷ [])
+described-more labels lang inst tables r equations long before here c inside less = by (cases_eq (constraint_of inst c).relation r)
+  where
+    by : ((constraint_of inst c).relation ≡ r) ⊎ ((constraint_of inst c).relation ≡ r → ⊥) → Describes labels (relation_of lang (constraint_of inst c).relation) (equations_at inst (tables ++ equations ∷ []) c)
+    by (inl same) =
+        let found = ap (λ k. get_or (tables ++ equations ∷ []) k []) same ∙ get_or_push tables equations [] r long in
+        subst (λ k. Describes labels (relation_of lang k) (equations_at inst (tables ++ equations ∷ []) c)) (sym same) (subst (Describes labels (relation_of lang r)) (sym found) (here c inside same))
+    by (inr other) =
+        let known : (constraint_of inst c).relation < length tables = omega (arith, less, other, long, length_push tables equations) in
+        subst (Describes labels (relation_of lang (constraint_of inst c).relation)) (sym (get_or_append_left tables (equations ∷ []) [] (constraint_of inst c).relation known)) (before c inside known)
 
 -- the labels of all rows of the constraint's relation meet the equation, whose numbers are below d
 record IsTrueAt (lang : LanguageView) (inst : InstanceView) (labels : List ℕ) (p : PlacedView) : Type 0 where

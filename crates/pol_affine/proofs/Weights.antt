@@ -31,47 +31,56 @@ weights-none d n = ext_get_or 0 (replicate n 0) (weights d n [] []) (length-repl
     let within : i < n = omega (arith, inside, length-replicate n 0) in
     get_or-replicate n i 0 0 within ∙ (sym (zero-mod d) ∙ sym (at-weights d n [] [] i within)))
 
--- one place on
-pub weights-more : (d n : ℕ) (scope coefs : List ℕ) (i : ℕ) → i < length coefs → length coefs ≤ length scope → get_or scope i 0 < n
-    → set (weights d n (take i scope) (take i coefs)) (get_or scope i 0) ((get_or (weights d n (take i scope) (take i coefs)) (get_or scope i 0) 0 + get_or coefs i 0) % d)
-    ≡ weights d n (take (suc i) scope) (take (suc i) coefs)
-weights-more d n scope coefs i inside within known = ext_get_or 0 (set old x new) all long (λ v low. at v (omega (arith, low, length-set old x new, length-weights d n (take i scope) (take i coefs))) (cases_eq v x))
-  where
-    abbrev x : ℕ
-    x = get_or scope i 0
-    abbrev a : ℕ
-    a = get_or coefs i 0
-    abbrev old : List ℕ
-    old = weights d n (take i scope) (take i coefs)
-    abbrev new : ℕ
-    new = (get_or old x 0 + a) % d
-    abbrev all : List ℕ
-    all = weights d n (take (suc i) scope) (take (suc i) coefs)
-    long : length (set old x new) ≡ length all
-    long = length-set old x new ∙ (length-weights d n (take i scope) (take i coefs) ∙ sym (length-weights d n (take (suc i) scope) (take (suc i) coefs)))
-    abbrev before : ℕ → ℕ
-    before v = weight_at v (take i scope) (take i coefs)
-    plain : (b : ℕ) → b ≡ b + 0
-    plain b = omega arith
-    at : (v : ℕ) → v < n → (v ≡ x) ⊎ (v ≡ x → ⊥) → get_or (set old x new) v 0 ≡ get_or all v 0
-    at v low (inl same) =
-        let more = weight-more v scope coefs i inside within in
-        let passes = eq-eqb x v (sym same) in
-        let here : x < length old = omega (arith, known, length-weights d n (take i scope) (take i coefs)) in
-        ap (λ u. get_or (set old x new) u 0) same
-        ∙ (get_or-set_same old x new 0 here
-        ∙ (ap (λ u. (get_or old u 0 + a) % d) (sym same)
-        ∙ (ap (λ w. (w + a) % d) (at-weights d n (take i scope) (take i coefs) v low)
-        ∙ (mod-add-mod (before v) d a
-        ∙ (sym (ap (λ w. w % d) (more ∙ ap (λ t. before v + (if t then a else 0)) passes))
-        ∙ sym (at-weights d n (take (suc i) scope) (take (suc i) coefs) v low))))))
-    at v low (inr other) =
-        let more = weight-more v scope coefs i inside within in
-        let fails = ne_eqb x v (λ e. other (sym e)) in
-        get_or-set_other old x v new 0 other
-        ∙ (at-weights d n (take i scope) (take i coefs) v low
-        ∙ (ap (λ w. w % d) (plain (before v) ∙ sym (more ∙ ap (λ t. before v + (if t then a else 0)) fails))
-        ∙ sym (at-weights d n (take (suc i) scope) (take (suc i) coefs) v low)))
+module _ (d n : ℕ) (scope coefs : List ℕ) (i : ℕ) where
+  abbrev x : ℕ
+  x = get_or scope i 0
+
+  abbrev a : ℕ
+  a = get_or coefs i 0
+
+  abbrev old : List ℕ
+  old = weights d n (take i scope) (take i coefs)
+
+  abbrev new : ℕ
+  new = (get_or old x 0 + a) % d
+
+  abbrev all : List ℕ
+  all = weights d n (take (suc i) scope) (take (suc i) coefs)
+
+  abbrev before : ℕ → ℕ
+  before v = weight_at v (take i scope) (take i coefs)
+
+  plain : (b : ℕ) → b ≡ b + 0
+  plain b = omega arith
+
+  more_at : i < length coefs → length coefs ≤ length scope → x < n → (v : ℕ) → v < n → (v ≡ x) ⊎ (v ≡ x → ⊥) → get_or (set old x new) v 0 ≡ get_or all v 0
+  more_at inside within known v low (inl same) =
+      let more = weight-more v scope coefs i inside within in
+      let passes = eq-eqb x v (sym same) in
+      let here : x < length old = omega (arith, known, length-weights d n (take i scope) (take i coefs)) in
+      ap (λ u. get_or (set old x new) u 0) same
+      ∙ (get_or-set_same old x new 0 here
+      ∙ (ap (λ u. (get_or old u 0 + a) % d) (sym same)
+      ∙ (ap (λ w. (w + a) % d) (at-weights d n (take i scope) (take i coefs) v low)
+      ∙ (mod-add-mod (before v) d a
+      ∙ (sym (ap (λ w. w % d) (more ∙ ap (λ t. before v + (if t then a else 0)) passes))
+      ∙ sym (at-weights d n (take (suc i) scope) (take (suc i) coefs) v low))))))
+  more_at inside within known v low (inr other) =
+      let more = weight-more v scope coefs i inside within in
+      let fails = ne_eqb x v (λ e. other (sym e)) in
+      get_or-set_other old x v new 0 other
+      ∙ (at-weights d n (take i scope) (take i coefs) v low
+      ∙ (ap (λ w. w % d) (plain (before v) ∙ sym (more ∙ ap (λ t. before v + (if t then a else 0)) fails))
+      ∙ sym (at-weights d n (take (suc i) scope) (take (suc i) coefs) v low)))
+
+  -- one place on
+  pub weights-more : i < length coefs → length coefs ≤ length scope → x < n → set old x new ≡ all
+  weights-more inside within known =
+      let length_old = length-weights d n (take i scope) (take i coefs) in
+      let long = length-set old x new ∙ (length_old ∙ sym (length-weights d n (take (suc i) scope) (take (suc i) coefs))) in
+      ext_get_or 0 (set old x new) all long (λ v low.
+        let v_low : v < n = omega (arith, low, length-set old x new, length_old) in
+        more_at inside within known v v_low (cases_eq v x))
 
 -- factors that are the same modulo p
 sum_below-modulo : (p n : ℕ) (f h g : ℕ → ℕ) → ((v : ℕ) → v < n → f v % p ≡ h v % p) → sum_below n (λ v. f v * g v) % p ≡ sum_below n (λ v. h v * g v) % p
