@@ -1,3 +1,4 @@
+pub mod Carried
 pub mod LabelRows
 pub mod Weights
 pub mod UsedParts

@@ -20,11 +20,11 @@ used-yes [] [] i e long inside nonzero = absurd (omega arith)
 used-yes [] (p ∷ placed) i e long inside nonzero = absurd (omega arith)
 used-yes (m ∷ ms) [] i e long inside nonzero = absurd (omega arith)
 used-yes (m ∷ ms) (p ∷ placed) zero e long inside nonzero = sym (ap (λ (b : Bool). if b then [] else part_with m p ∷ []) (ne_eqb m 0 nonzero))
-used-yes (m ∷ ms) (p ∷ placed) (suc i) e long inside nonzero = by (eqb m 0) (used-yes ms placed i e (omega arith) (omega arith) nonzero)
+used-yes (m ∷ ms) (p ∷ placed) (suc i) e long inside nonzero = by _ _ _ (eqb m 0) (used-yes ms placed i e (omega arith) (omega arith) nonzero)
   where
-    by : {some all : List PartView} {x : PartView} (b : Bool) → some ++ x ∷ [] ≡ all → (if b then some else part_with m p ∷ some) ++ x ∷ [] ≡ (if b then all else part_with m p ∷ all)
-    by true rest = rest
-    by false rest = ap (λ parts. part_with m p ∷ parts) rest
+    by : (some all : List PartView) (x : PartView) (b : Bool) → some ++ x ∷ [] ≡ all → (if b then some else part_with m p ∷ some) ++ x ∷ [] ≡ (if b then all else part_with m p ∷ all)
+    by some all x true rest = rest
+    by some all x false rest = ap (λ parts. part_with m p ∷ parts) rest
 
 -- one equation on, with multiplier 0
 pub used-no : (ms : List ℕ) (placed : List PlacedView) (i : ℕ) → length ms ≡ length placed → i < length placed → get_or ms i 0 ≡ 0
@@ -33,11 +33,11 @@ used-no [] [] i long inside none = absurd (omega arith)
 used-no [] (p ∷ placed) i long inside none = absurd (omega arith)
 used-no (m ∷ ms) [] i long inside none = absurd (omega arith)
 used-no (m ∷ ms) (p ∷ placed) zero long inside none = sym (ap (λ (b : Bool). if b then [] else part_with m p ∷ []) (eq-eqb m 0 none))
-used-no (m ∷ ms) (p ∷ placed) (suc i) long inside none = by (eqb m 0) (used-no ms placed i (omega arith) (omega arith) none)
+used-no (m ∷ ms) (p ∷ placed) (suc i) long inside none = by _ _ (eqb m 0) (used-no ms placed i (omega arith) (omega arith) none)
   where
-    by : {some all : List PartView} (b : Bool) → some ≡ all → (if b then some else part_with m p ∷ some) ≡ (if b then all else part_with m p ∷ all)
-    by true rest = rest
-    by false rest = ap (λ parts. part_with m p ∷ parts) rest
+    by : (some all : List PartView) (b : Bool) → some ≡ all → (if b then some else part_with m p ∷ some) ≡ (if b then all else part_with m p ∷ all)
+    by some all true rest = rest
+    by some all false rest = ap (λ parts. part_with m p ∷ parts) rest
 
 -- what holds of each of the equations with a multiplier below d other than 0 holds of the parts
 pub used-all : (d : ℕ) (Q : PlacedView → Type 0) (P : PartView → Type 0) → ((m : ℕ) (p : PlacedView) → m < d → m ≢ 0 → Q p → P (part_with m p))

@@ -27,9 +27,9 @@ weights-below d n scope coefs some = All-map (λ a. a < d) (λ v. weight_at v sc
 
 -- without places
 pub weights-none : (d n : ℕ) → replicate n 0 ≡ weights d n [] []
-weights-none d n = ext_get_or 0 (replicate n 0) (weights d n [] []) (length-replicate n 0 ∙ sym (length-weights d n [] [])) (λ i inside.
-    let within : i < n = omega (arith, inside, length-replicate n 0) in
-    get_or-replicate n i 0 0 within ∙ (sym (zero-mod d) ∙ sym (at-weights d n [] [] i within)))
+weights-none d n = ext_get_or 0 (replicate n 0) (weights d n [] []) (length-replicate {A = ℕ} n 0 ∙ sym (length-weights d n [] [])) (λ i inside.
+    let within : i < n = omega (arith, inside, length-replicate {A = ℕ} n 0) in
+    get_or-replicate {A = ℕ} n i 0 0 within ∙ (sym (zero-mod d) ∙ sym (at-weights d n [] [] i within)))
 
 module _ (d n : ℕ) (scope coefs : List ℕ) (i : ℕ) where
   abbrev x : ℕ
