@@ -1,21 +1,20 @@
 -- The system of an instance: common solutions are the labels of solutions, and a clash is a valid combination.
-use Rattle.std.proofs.Common.{◌≡◌, ◌≢◌, ℕ, ◌+◌, ◌*◌, ◌%◌, ◌<◌, ◌≤◌, ◌⊎◌, inl, inr, List, [], ◌∷◌, ◌++◌, length, get_or, map, All, Contains, refl, sym, ap, ◌∙◌, subst, arith}
-use Rattle.std.specs.List.{count_by}
+use Rattle.std.proofs.Common.{◌≡◌, ◌≢◌, ℕ, ◌*◌, ◌%◌, ◌<◌, ◌≤◌, ◌⊎◌, inl, inr, List, [], ◌∷◌, ◌++◌, length, get_or, map, All, refl, sym, ap, ◌∙◌, subst, arith}
 use Rattle.std.proofs.lemmas.Bool.{cases_eq}
 use Rattle.std.proofs.lemmas.List.{length-map, length_push, get_or-map, get_or_default, get_or_push, get_or_append_left}
 use Rattle.std.proofs.lemmas.List.Elements.{All-map, All-head, All-tail}
 use Rattle.pol_base.specs.Tuples.{IsTuple}
-use Rattle.pol_relation.specs.Relations.{LanguageView, IsLanguage, IsRelationOver, relation_of, rows_of, no_named}
+use Rattle.pol_relation.specs.Relations.{LanguageView, IsLanguage, IsRelationOver, relation_of, no_named}
 use Rattle.pol_relation.specs.Instances.{InstanceView, ConstraintView, Fits, IsSolution, Meets, read_at, constraint_of, no_constraint}
 use Rattle.pol_optable.specs.Identities.{IsLabelling}
 use Rattle.pol_identity.specs.Labels.{labelled}
 use Rattle.pol_identity.specs.LabelLaws.{has_label}
-use Rattle.pol_modp.specs.Equations.{EquationView, IsEquation, MeetsEquation, IsCommonSolution, IsClash, dot}
+use Rattle.pol_modp.specs.Equations.{EquationView, IsEquation, MeetsEquation, IsCommonSolution, IsClash}
 use Rattle.pol_modp.specs.Rows.{no_equation}
 use Rattle.pol_modp.specs.Combinations.{PartView, labels_of, scope_at, rows_at, arity_at}
 use Rattle.pol_modp.specs.ValidCombinations.{IsPlaced, IsImplied}
 use Rattle.pol_affine.specs.RelationEquations.{Describes}
-use Rattle.pol_affine.specs.Systems.{DescribeUsed, PlacedView, placed_at, placed_in, equations_at, IsKnown, AreKnown, spread_over, used_parts}
+use Rattle.pol_affine.specs.Systems.{DescribeUsed, PlacedView, placed_at, placed_in, equations_at, AreKnown, spread_over, used_parts}
 use Rattle.pol_affine.specs.Answers.{IsSumCertificate}
 use Rattle.pol_affine.proofs.Weights.{length-weights, weights-below, weights-read}
 use Rattle.pol_affine.proofs.UsedParts.{used-all, used-few, used-sum, used-right}

@@ -1,7 +1,6 @@
-use Rattle.std.proofs.Common.{◌≡◌, ℕ, ◌<◌, ◌≤◌, List, length, take, map, All, Contains, sym, ap, ◌∙◌, subst, arith}
+use Rattle.std.proofs.Common.{◌≡◌, ℕ, List, length, take, map, All, Contains, sym, ap, ◌∙◌, arith}
 use Rattle.std.proofs.lemmas.List.{length-map}
 use Rattle.pol_base.specs.Tuples.{IsTuple}
-use Rattle.pol_relation.specs.Relations.{RelationView}
 use Rattle.pol_relation.proofs.RelationLemmas.{length-rows_few}
 use Rattle.pol_modp.specs.Equations.{MeetsEquation}
 use Rattle.pol_modp.specs.AffineSets.{IsAffineSet}

@@ -1,4 +1,4 @@
-use Rattle.std.proofs.Common.{◌≡◌, ℕ, suc, ◌+◌, ◌%◌, ◌<◌, length, get_or, set, take, All, sym, ap, ◌∙◌, subst, arith}
+use Rattle.std.proofs.Common.{◌≡◌, suc, ◌+◌, ◌%◌, ◌<◌, [], length, get_or, set, take, All, sym, ap, ◌∙◌, subst, arith}
 use Rattle.pol_affine.specs.Systems.{weights}
 use Rattle.pol_affine.proofs.Weights.{weights-none, weights-more, weights-below}
 use Rattle.pol_affine.proofs.placing.add_at_scope.Goals as goal
@@ -9,7 +9,7 @@ loop-i-init c =
     let d = c.args.d in
     let n = length c.args.row.now in
     let empty = c.requires.nothing ∙ weights-none d n in
-    (empty, subst (All (λ a. a < d)) (sym empty) (weights-below d n _ _ c.size-size.ensures.within.some))
+    (empty, subst (All (λ a. a < d)) (sym empty) (weights-below d n [] [] c.size-size.ensures.within.some))
 
 -- one place on
 pub loop-i-preserved : goal.loop-i-preserved

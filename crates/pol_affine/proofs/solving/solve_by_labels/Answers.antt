@@ -1,8 +1,8 @@
-use Rattle.std.proofs.Common.{◌≡◌, ℕ, ◌+◌, ◌*◌, ◌≤◌, List, length, take, map, All, sym, ap, ◌∙◌, subst, arith}
+use Rattle.std.proofs.Common.{ℕ, List, length, take, map, All, sym, ap, ◌∙◌, subst, arith}
 use Rattle.std.proofs.lemmas.List.{length-map}
 use Rattle.pol_relation.specs.Instances.{IsSolution}
 use Rattle.pol_identity.specs.Labels.{labelled}
-use Rattle.pol_modp.specs.Equations.{EquationView, IsEquation, IsCommonSolution, IsClash}
+use Rattle.pol_modp.specs.Equations.{IsEquation, IsCommonSolution, IsClash}
 use Rattle.pol_modp.specs.Answers.{ValuesSolve, ClashIsShown}
 use Rattle.pol_modp.specs.Combinations.{CombinationView}
 use Rattle.pol_modp.proofs.CombinationSound.{valid_combination_refutes}

@@ -1,7 +1,6 @@
 use Rattle.std.proofs.Common.{◌≡◌, ℕ, ◌+◌, ◌<◌, ◌≤◌, List, length, take, All, sym, ap, ◌∙◌, subst, arith}
 use Rattle.std.proofs.lemmas.List.{length_push}
 use Rattle.pol_relation.specs.Relations.{RelationView, IsRelationOver, relation_of, no_named}
-use Rattle.pol_relation.specs.Instances.{constraint_of}
 use Rattle.pol_optable.specs.Operations.{Preserves}
 use Rattle.pol_optable.specs.Identities.{IsAffineBy}
 use Rattle.pol_modp.specs.Equations.{EquationView, IsEquation}
