@@ -29,6 +29,7 @@ dot-one (x ∷ xs) (y ∷ ys) zero inside apart = step (x * y) (dot xs ys) (none
   where
     step : (a b : ℕ) → b ≡ 0 → a + b ≡ a
     step a b zeros = omega arith
+
     none : (xs ys : List ℕ) → ((k : ℕ) → k < length ys → (get_or xs k 0 ≡ 0) ⊎ (get_or ys k 0 ≡ 0)) → dot xs ys ≡ 0
     none [] ys either = refl
     none (x ∷ xs) [] either = refl
@@ -145,6 +146,7 @@ module _ (p n : ℕ) (some : 2 ≤ p) (rows : List (List ℕ)) (vectors : All (I
     where
       reduced : IsReduced p N e basis h.row
       reduced = is_reduced h
+
       by : ((j : ℕ) × (j < length basis) × ((d : PivotView) → (get_or basis j d).pivot ≡ c)) ⊎ All (λ (b : PivotView). b.pivot ≢ c) basis → get_or h.row c 0 ≡ 0
       by (inl at) = let d : PivotView = record { cells = []; pivot = 0; source = 0 } in ap (λ m. get_or h.row m 0) (sym (at.2 d)) ∙ reduced.zeros at.0 d at.1
       by (inr free) =
@@ -157,6 +159,7 @@ module _ (p n : ℕ) (some : 2 ≤ p) (rows : List (List ℕ)) (vectors : All (I
         where
           times : (a : ℕ) → a * 1 ≡ a
           times a = grind arith
+
           either : (m : ℕ) → m ≢ c → (ys : List ℕ) → IsFreeAt p (n + 1) basis c ys → ((j : ℕ) × (j < length basis) × ((d : PivotView) → (get_or basis j d).pivot ≡ m)) ⊎ All (λ (b : PivotView). b.pivot ≢ m) basis → (get_or h.row m 0 ≡ 0) ⊎ (get_or ys m 0 ≡ 0)
           either m differs ys free_at (inl at) = let d : PivotView = record { cells = []; pivot = 0; source = 0 } in inl (ap (λ i. get_or h.row i 0) (sym (at.2 d)) ∙ reduced.zeros at.0 d at.1)
           either m differs ys free_at (inr other) = inr (free_at.zeros m differs other)
@@ -179,6 +182,7 @@ module _ (p n : ℕ) (some : 2 ≤ p) (rows : List (List ℕ)) (vectors : All (I
     where
       flip : (s a m : ℕ) → s + m * a ≡ s + a * m
       flip s a m = grind arith
+
       last_is : get_or old (N + 1 + k) 0 ≡ p - 1
       last_is =
           let front_long = length-whole p N e e_is in
@@ -240,6 +244,7 @@ module _ (p n : ℕ) (some : 2 ≤ p) (rows : List (List ℕ)) (vectors : All (I
         where
           turn : (s q : ℕ) → s + 1 * q ≡ q + s
           turn s q = grind arith
+
           all : (p s : ℕ) → 1 ≤ p → (p - 1) * s + s ≡ p * s
           all zero s some = absurd (omega arith)
           all (suc q) s some = by q (suc q - 1) s (omega arith)
@@ -260,8 +265,8 @@ pub right_stays_zero : (p n : ℕ) (equations : List EquationView) (are : All (I
 right_stays_zero p n equations are some rights i basis row known is reduced =
     let says = row-says p n equations are some i basis row (omega (arith, known)) (equation_at equations i) (are i no_equation known) is reduced n (omega arith) in
     let zeros = dot-of-zeros (drop (n + 1) row) _ (All-push (λ y. y ≡ 0) (map (λ (b : PivotView). get_or (whole (equation_at equations b.source)) n 0) basis) (get_or (whole (equation_at equations i)) n 0)
-        (All-map (λ y. y ≡ 0) (λ (b : PivotView). get_or (whole (equation_at equations b.source)) n 0) basis (λ j d inside. right_at (get_or basis j d).source (omega (arith, is.sources j d inside, known))))
-        (right_at i known)) in
+    (All-map (λ y. y ≡ 0) (λ (b : PivotView). get_or (whole (equation_at equations b.source)) n 0) basis (λ j d inside. right_at (get_or basis j d).source (omega (arith, is.sources j d inside, known))))
+    (right_at i known)) in
     small_zero p (get_or row n 0) (reduced.below n 0 (omega (arith, reduced.long))) (left_zero p (get_or row n 0) (dot (drop (n + 1) row) _) says (ap (λ s. s % p) zeros ∙ zero-mod p))
   where
     right_at : (s : ℕ) → s < length equations → get_or (whole (equation_at equations s)) n 0 ≡ 0

@@ -31,8 +31,10 @@ normal p row pivot source factor b some cells_are pivot_is source_is inverse = r
   where
     plain : (s : ℕ) → 0 + s ≡ s
     plain s = omega arith
+
     nothing : (f a : ℕ) → a ≡ 0 → 0 + f * a ≡ 0
     nothing f a zeros = rw zeros (grind arith)
+
     one_small : (p : ℕ) → 2 ≤ p → 1 % p ≡ 1
     one_small p some = let small : 1 < p = omega arith in mod-eq_of_lt small
 
@@ -130,7 +132,7 @@ module _ (p n : ℕ) (equations : List EquationView) (are : All (IsEquation p n)
         by (inl same) =
             subst (λ (m : ℕ). IsPivotRow p n (take m (basis ++ b ∷ [])) (get_or (basis ++ b ∷ []) m d)) (sym same)
             (subst (λ (front : List PivotView). IsPivotRow p n front (get_or (basis ++ b ∷ []) (length basis) d)) (sym (take_at basis (b ∷ []) (length basis) refl))
-              (subst (λ (c : PivotView). IsPivotRow p n basis c) (sym (at_end d)) is_pivot_row))
+            (subst (λ (c : PivotView). IsPivotRow p n basis c) (sym (at_end d)) is_pivot_row))
         by (inr differs) =
             let before : j < length basis = omega (arith, inside, differs, length_push basis b) in
             subst (λ (front : List PivotView). IsPivotRow p n front (get_or (basis ++ b ∷ []) j d)) (sym (take-append-le j basis (b ∷ []) (omega (arith, before))))

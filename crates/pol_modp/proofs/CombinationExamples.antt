@@ -131,7 +131,6 @@ counted_once = refl
 second_variable : fault_of_repeated (part 0 1 0 (1 ∷ []) ∷ part 1 1 1 ones ∷ []) ≡ Some (fault.Remainder 1)
 second_variable = refl
 
-
 -- ---- four values: labels that are not one-to-one, and a sum that reads 0 = 2
 
 abbrev parities : LanguageView

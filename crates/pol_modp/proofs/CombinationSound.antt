@@ -89,7 +89,7 @@ module _ (inst : InstanceView) (g : ℕ → ℕ) where
       sum_by-cons (λ (part : PartView). part.multiplier * side_of part) part parts ∙ (ap (λ s. part.multiplier * side_of part + s) rest ∙ (ap (λ s. part.multiplier * s + sum_below n h) here
       ∙ (ap (λ s. s + sum_below n h) (sym (sum_below-mul n part.multiplier f)) ∙ (sym (sum_below-add n (λ v. part.multiplier * f v) h)
       ∙ sum_below-same n (λ v. part.multiplier * f v + h v) (λ v. sum_at inst (part ∷ parts) v * g v)
-        (λ v. turn part.multiplier (weight_at v (scope_at inst part.constraint) part.coefs) (g v) (sum_at inst parts v) (sum_at inst (part ∷ parts) v) (sum_by-cons (λ (p : PartView). p.multiplier * weight_at v (scope_at inst p.constraint) p.coefs) part parts))))))
+      (λ v. turn part.multiplier (weight_at v (scope_at inst part.constraint) part.coefs) (g v) (sum_at inst parts v) (sum_at inst (part ∷ parts) v) (sum_by-cons (λ (p : PartView). p.multiplier * weight_at v (scope_at inst p.constraint) p.coefs) part parts))))))
     where
       turn : (m w k s all : ℕ) → all ≡ m * w + s → m * (w * k) + s * k ≡ all * k
       turn m w k s all same = rw same (by m w k s)

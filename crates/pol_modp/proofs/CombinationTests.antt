@@ -22,16 +22,16 @@ placed_from_test lang inst part passes =
     let many = eqb (length part.coefs) (arity_at lang inst part.constraint) in
     let multiplier = ltb part.multiplier lang.domain in
     let right = ltb part.right lang.domain in
-    let one = and_parts (known && many && multiplier && right) (are_below lang.domain part.coefs) passes in
-    let two = and_parts (known && many && multiplier) right one.0 in
-    let three = and_parts (known && many) multiplier two.0 in
-    let four = and_parts known many three.0 in
+    let with_coefs = and_parts (known && many && multiplier && right) (are_below lang.domain part.coefs) passes in
+    let with_right = and_parts (known && many && multiplier) right with_coefs.0 in
+    let with_multiplier = and_parts (known && many) multiplier with_right.0 in
+    let with_many = and_parts known many with_multiplier.0 in
     record {
-      known = ltb-true part.constraint (length inst.constraints) four.0;
-      as_many = eqb-true (length part.coefs) (arity_at lang inst part.constraint) four.1;
-      multiplier_below = ltb-true part.multiplier lang.domain three.1;
-      right_below = ltb-true part.right lang.domain two.1;
-      coefs_below = All-from_list_all (λ a. ltb a lang.domain) (λ a. a < lang.domain) (λ a. ltb-true a lang.domain) part.coefs one.1;
+      known = ltb-true part.constraint (length inst.constraints) with_many.0;
+      as_many = eqb-true (length part.coefs) (arity_at lang inst part.constraint) with_many.1;
+      multiplier_below = ltb-true part.multiplier lang.domain with_multiplier.1;
+      right_below = ltb-true part.right lang.domain with_right.1;
+      coefs_below = All-from_list_all (λ a. ltb a lang.domain) (λ a. a < lang.domain) (λ a. ltb-true a lang.domain) part.coefs with_coefs.1;
     }
 
 pub test_from_placed : (lang : LanguageView) (inst : InstanceView) (part : PartView) → IsPlaced lang inst part → part_placed lang inst part ≡ true
@@ -42,10 +42,10 @@ test_from_placed lang inst part is =
     let right = ltb part.right lang.domain in
     and_from (known && many && multiplier && right) (are_below lang.domain part.coefs)
     (and_from (known && many && multiplier) right
-      (and_from (known && many) multiplier
-        (and_from known many (lt-ltb part.constraint (length inst.constraints) is.known) (eq-eqb (length part.coefs) (arity_at lang inst part.constraint) is.as_many))
-        (lt-ltb part.multiplier lang.domain is.multiplier_below))
-      (lt-ltb part.right lang.domain is.right_below))
+    (and_from (known && many) multiplier
+    (and_from known many (lt-ltb part.constraint (length inst.constraints) is.known) (eq-eqb (length part.coefs) (arity_at lang inst part.constraint) is.as_many))
+    (lt-ltb part.multiplier lang.domain is.multiplier_below))
+    (lt-ltb part.right lang.domain is.right_below))
     (list_all-from_All (λ a. ltb a lang.domain) (λ a. a < lang.domain) (λ a. lt-ltb a lang.domain) part.coefs is.coefs_below)
 
 pub implied_from_test : (lang : LanguageView) (inst : InstanceView) (labels : List ℕ) (part : PartView) → part_implied lang inst labels part ≡ true → IsImplied lang inst labels part
@@ -64,6 +64,12 @@ placed_from_first lang inst parts none = All-from_list_all (part_placed lang ins
 pub implied_from_first : (lang : LanguageView) (inst : InstanceView) (labels : List ℕ) (parts : List PartView) → first_failing (part_implied lang inst labels) parts ≡ None → All (IsImplied lang inst labels) parts
 implied_from_first lang inst labels parts none = All-from_list_all (part_implied lang inst labels) (IsImplied lang inst labels) (implied_from_test lang inst labels) parts (first_failing-none (part_implied lang inst labels) parts none)
 
+pub first_from_placed : (lang : LanguageView) (inst : InstanceView) (parts : List PartView) → All (IsPlaced lang inst) parts → first_failing (part_placed lang inst) parts ≡ None
+first_from_placed lang inst parts are = first_failing-all (part_placed lang inst) parts (list_all-from_All (part_placed lang inst) (IsPlaced lang inst) (test_from_placed lang inst) parts are)
+
+pub first_from_implied : (lang : LanguageView) (inst : InstanceView) (labels : List ℕ) (parts : List PartView) → All (IsImplied lang inst labels) parts → first_failing (part_implied lang inst labels) parts ≡ None
+first_from_implied lang inst labels parts are = first_failing-all (part_implied lang inst labels) parts (list_all-from_All (part_implied lang inst labels) (IsImplied lang inst labels) (test_from_implied lang inst labels) parts are)
+
 pub labels_from_test : (d : ℕ) (labels : List ℕ) → are_labels d labels ≡ true → AreLabels d labels
 labels_from_test d labels passes =
     let parts = and_parts (eqb (length labels) d) (are_below d labels) passes in
@@ -75,11 +81,14 @@ test_from_labels d labels are =
     (list_all-from_All (λ l. ltb l d) (λ l. l < d) (λ l. lt-ltb l d) labels are.below)
 
 -- the numbers of the variables are the numbers below their count
-pub number_at : (n v : ℕ) → v < n → get_or (range_with_len 0 n) v 0 ≡ v
-number_at n v inside = get_or-range_with_len 0 n v 0 inside ∙ plain v
+pub number_from : (n v e : ℕ) → v < n → get_or (range_with_len 0 n) v e ≡ v
+number_from n v e inside = get_or-range_with_len 0 n v e inside ∙ plain v
   where
     plain : (v : ℕ) → 0 + v ≡ v
     plain v = omega arith
+
+pub number_at : (n v : ℕ) → v < n → get_or (range_with_len 0 n) v 0 ≡ v
+number_at n v inside = number_from n v 0 inside
 
 module _ (lang : LanguageView) (inst : InstanceView) (parts : List PartView) where
   abbrev n : ℕ
@@ -100,10 +109,7 @@ module _ (lang : LanguageView) (inst : InstanceView) (parts : List PartView) whe
       at_zero : All (IsZeroAt lang inst parts) (variables_of inst)
       at_zero = λ k e inside.
           let low : k < n = omega (arith, inside, length-range_with_len 0 n) in
-          subst (IsZeroAt lang inst parts) (sym (get_or-range_with_len 0 n k e low ∙ plain k)) (zeros k low)
-        where
-          plain : (v : ℕ) → 0 + v ≡ v
-          plain v = omega arith
+          subst (IsZeroAt lang inst parts) (sym (number_from n k e low)) (zeros k low)
 
 -- a chain of tests without a fault passes each, and so the other way
 
@@ -121,40 +127,41 @@ not_passes true passes = absurd (true≢false (sym passes))
 
 -- where each test passes there is no fault
 no_fault : (labels : Bool) (placed implied zeros : Option ℕ) (right : Bool) → labels ≡ true → placed ≡ None → implied ≡ None → zeros ≡ None → right ≡ true
-        → fault_unless labels fault.BadLabels (fault_at placed fault.BadPlace (fault_at implied fault.NotImplied (fault_at zeros fault.Remainder (fault_unless right fault.ZeroRight None)))) ≡ None
+    → fault_unless labels fault.BadLabels (fault_at placed fault.BadPlace (fault_at implied fault.NotImplied (fault_at zeros fault.Remainder (fault_unless right fault.ZeroRight None)))) ≡ None
 no_fault labels placed implied zeros right a b c d e = rw (a, b, c, d, e) refl
 
+-- the tests of a combination, and what comes behind each
 module _ (lang : LanguageView) (inst : InstanceView) (c : CombinationView) where
-  abbrev right_test : Bool
+  abbrev pub right_test : Bool
   right_test = not (eqb (sum_right c.parts % lang.domain) 0)
 
-  abbrev last : Option CombFault
-  last = fault_unless right_test fault.ZeroRight None
+  abbrev pub after_sums : Option CombFault
+  after_sums = fault_unless right_test fault.ZeroRight None
 
-  abbrev zero_test : Option ℕ
+  abbrev pub zero_test : Option ℕ
   zero_test = first_failing (is_zero_at lang inst c.parts) (variables_of inst)
 
-  abbrev fourth : Option CombFault
-  fourth = fault_at zero_test fault.Remainder last
+  abbrev pub after_rows : Option CombFault
+  after_rows = fault_at zero_test fault.Remainder after_sums
 
-  abbrev row_test : Option ℕ
+  abbrev pub row_test : Option ℕ
   row_test = first_failing (part_implied lang inst c.labels) c.parts
 
-  abbrev third : Option CombFault
-  third = fault_at row_test fault.NotImplied fourth
+  abbrev pub after_places : Option CombFault
+  after_places = fault_at row_test fault.NotImplied after_rows
 
-  abbrev place_test : Option ℕ
+  abbrev pub place_test : Option ℕ
   place_test = first_failing (part_placed lang inst) c.parts
 
-  abbrev second : Option CombFault
-  second = fault_at place_test fault.BadPlace third
+  abbrev pub after_labels : Option CombFault
+  after_labels = fault_at place_test fault.BadPlace after_places
 
   pub valid_from_fault : combination_fault lang inst c ≡ None → IsValidCombination lang inst c
   valid_from_fault none =
-      let labels = without_none (are_labels lang.domain c.labels) fault.BadLabels second none in
-      let places = at_none place_test fault.BadPlace third labels.1 in
-      let rows = at_none row_test fault.NotImplied fourth places.1 in
-      let zeros = at_none zero_test fault.Remainder last rows.1 in
+      let labels = without_none (are_labels lang.domain c.labels) fault.BadLabels after_labels none in
+      let places = at_none place_test fault.BadPlace after_places labels.1 in
+      let rows = at_none row_test fault.NotImplied after_rows places.1 in
+      let zeros = at_none zero_test fault.Remainder after_sums rows.1 in
       let right = without_none right_test fault.ZeroRight None zeros.1 in
       record {
         labels = labels_from_test lang.domain c.labels labels.0;
@@ -167,8 +174,8 @@ module _ (lang : LanguageView) (inst : InstanceView) (c : CombinationView) where
   pub fault_from_valid : IsValidCombination lang inst c → combination_fault lang inst c ≡ None
   fault_from_valid is =
       let labels = test_from_labels lang.domain c.labels is.labels in
-      let places = first_failing-all (part_placed lang inst) c.parts (list_all-from_All (part_placed lang inst) (IsPlaced lang inst) (test_from_placed lang inst) c.parts is.placed) in
-      let rows = first_failing-all (part_implied lang inst c.labels) c.parts (list_all-from_All (part_implied lang inst c.labels) (IsImplied lang inst c.labels) (test_from_implied lang inst c.labels) c.parts is.implied) in
+      let places = first_from_placed lang inst c.parts is.placed in
+      let rows = first_from_implied lang inst c.labels c.parts is.implied in
       let zeros = first_failing-all (is_zero_at lang inst c.parts) (variables_of inst) (test_from_zeros lang inst c.parts is.coefs_zero) in
       let right = ap not (ne_eqb (sum_right c.parts % lang.domain) 0 is.right_nonzero) in
       no_fault (are_labels lang.domain c.labels) place_test row_test zero_test right_test labels places rows zeros right

@@ -56,11 +56,11 @@ module _ (p n : ℕ) (basis : List PivotView) (echelon : IsEchelon p n basis) wh
           below = below-plus_multiple p k row b.cells some so_far.below;
           zeros = All-more (λ (e : PivotView). get_or new e.pivot 0 ≡ 0) basis j d inside
               (λ i e less.
-                let before : i < j = omega (arith, less, length-take-le j basis (omega (arith, inside))) in
-                let e_is = get_or-take j basis i e before in
-                subst (λ (f : PivotView). get_or new f.pivot 0 ≡ 0) (sym e_is)
-                (reads (get_or basis i e).pivot (echelon i e (omega (arith, before, inside))).pivot_below
-                  ∙ zeros_at p (get_or row (get_or basis i e).pivot 0) k (get_or b.cells (get_or basis i e).pivot 0) (subst (λ (f : PivotView). get_or row f.pivot 0 ≡ 0) e_is (so_far.zeros i e less)) (later_zero i j d e before inside)))
+              let before : i < j = omega (arith, less, length-take-le j basis (omega (arith, inside))) in
+              let e_is = get_or-take j basis i e before in
+              subst (λ (f : PivotView). get_or new f.pivot 0 ≡ 0) (sym e_is)
+              (reads (get_or basis i e).pivot (echelon i e (omega (arith, before, inside))).pivot_below
+              ∙ zeros_at p (get_or row (get_or basis i e).pivot 0) k (get_or b.cells (get_or basis i e).pivot 0) (subst (λ (f : PivotView). get_or row f.pivot 0 ≡ 0) e_is (so_far.zeros i e less)) (later_zero i j d e before inside)))
               (reads b.pivot is.pivot_below ∙ here p (get_or row b.pivot 0) k (get_or b.cells b.pivot 0) is.one whole);
           same = λ ys vanish.
               let sum = dot-plus_multiple p k row b.cells ys cells_within in
@@ -74,6 +74,7 @@ module _ (p n : ℕ) (basis : List PivotView) (echelon : IsEchelon p n basis) wh
           where
             by : (a k b : ℕ) → a ≡ 0 → b ≡ 0 → a + k * b ≡ 0
             by a k b first second = rw (first, second) (grind arith)
+
         here : (p a k b : ℕ) → b ≡ 1 → a + k ≡ p → (a + k * b) % p ≡ 0
         here p a k b one all = ap (λ s. s % p) (by a k b p one all) ∙ mod_self p
           where
@@ -121,8 +122,10 @@ module _ (p n : ℕ) (basis : List PivotView) (echelon : IsEchelon p n basis) wh
           where
             by_one : (a k : ℕ) → a ≡ 1 → a * (1 * k) ≡ k
             by_one a k one = rw one (grind arith)
+
             fills : (p s k : ℕ) → s % p + k ≡ p → (s + k) % p ≡ 0
             fills p s k all = sym (mod-add-mod s p k) ∙ (ap (λ t. t % p) all ∙ mod_self p)
+
         by : (i ≡ j) ⊎ (i ≢ j) → Vanishes p (get_or basis i d).cells raised
         by (inl same) = subst (λ (m : ℕ). dot (get_or basis m d).cells raised % p ≡ 0) (sym same) own
         by (inr differs) =
@@ -132,5 +135,6 @@ module _ (p n : ℕ) (basis : List PivotView) (echelon : IsEchelon p n basis) wh
           where
             nothing : (a k : ℕ) → a ≡ 0 → a * (1 * k) ≡ 0
             nothing a k zeros = rw zeros (grind arith)
+
             plain : (s : ℕ) → s + 0 ≡ s
             plain s = omega arith

@@ -8,7 +8,7 @@ pub mod BasisLemmas
 pub mod Solution
 pub mod AffineSums
 pub mod AffineRows
-pub mod Exactly
+pub mod NullSpace
 pub mod SumLemmas
 pub mod FirstFailing
 pub mod CombinationSound

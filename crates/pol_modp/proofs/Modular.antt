@@ -51,6 +51,7 @@ cancel p k inverse a one zeros =
   where
     times : (a : ℕ) → a * 1 ≡ a
     times a = grind arith
+
     turn : (k inverse a : ℕ) → a * (k * inverse) ≡ inverse * (k * a)
     turn k inverse a = grind arith
 

@@ -19,6 +19,7 @@ from_minus p a b some zeros =
   where
     plain : (b : ℕ) → 0 + b ≡ b
     plain b = omega arith
+
     turn : (p a b : ℕ) → 1 ≤ p → a + p * b ≡ a + b * (p - 1) + b
     turn zero a b some = absurd (omega arith)
     turn (suc q) a b some = by q (suc q - 1) a b (omega arith)
@@ -33,6 +34,7 @@ meets_from_vanish p n e ys some is long last gone =
   where
     plain : (a b : ℕ) → a + (b + 0) ≡ a + b
     plain a b = omega arith
+
     split : ys ≡ take n ys ++ (p - 1) ∷ []
     split = sym (take_all (n + 1) ys (omega (arith, long))) ∙ (take_more ys n 0 (omega (arith, long)) ∙ ap (λ a. take n ys ++ a ∷ []) last)
 

@@ -7,3 +7,4 @@ pub mod Combinations
 pub mod Parts
 pub mod ValidCombinations
 pub mod CombinationFaults
+pub mod Laws

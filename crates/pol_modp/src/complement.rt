@@ -14,9 +14,10 @@ use crate::row_steps::first_nonzero;
 use pol_base::{NoMemory, Values};
 use std::alloc::Global;
 
-/// Equations over `n` variables modulo `p` that all of the rows meet, at most `n + 1`; where the rows are
-/// an affine set nothing else meets them all. Without rows one of them says that 0 is equal to another
-/// number. Their coefficients with their right sides span the null space of the rows with -1 behind them.
+/// Equations over `n` variables modulo the prime `p` that all of the rows meet, at most `n + 1`. Where the
+/// rows are an affine set nothing else meets them all; without rows one of them says that 0 is equal to
+/// another number. Their coefficients with their right sides are solutions of the rows with -1 behind them:
+/// one for each place that the echelon of these has no pivot at.
 pub fn null_space(alloc: Global, p: u8, n: u32, rows: &[Values]) -> Result<Vec<Equation>, NoMemory>
     requires prime { IsSmallPrime p }
     requires few_variables { n ≤ 40 }
@@ -76,12 +77,7 @@ fn echelon_of(
 }
 
 /// An equation for each place without pivot, which all rows of the echelon meet.
-fn orthogonal(
-    alloc: Global,
-    p: u8,
-    n: u32,
-    basis: &[PivotRow],
-) -> Result<Vec<Equation>, NoMemory>
+fn orthogonal(alloc: Global, p: u8, n: u32, basis: &[PivotRow]) -> Result<Vec<Equation>, NoMemory>
     requires positive { 2 ≤ p }
     requires few_variables { n ≤ 40 }
     requires echelon { IsEchelon p (n + 1) basis.now }

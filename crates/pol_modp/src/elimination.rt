@@ -10,20 +10,20 @@ use crate::row_steps::{first_nonzero, long_row, scale};
 use pol_base::{NoMemory, Values};
 use std::alloc::Global;
 
-/// Values that meet all equations, or multipliers that add them up to 0 equal to another number.
+/// What an elimination comes to.
 #[derive(Debug, Drop)]
 pub enum Elim {
+    /// A value for each variable: they meet all equations.
     Values(Values),
+    /// A multiplier for each equation: the sum of multiplier times equation says that 0 is equal to another
+    /// number.
     Clash(Values),
 }
 
-/// Solves the equations over `n` variables modulo `p`, one equation after another.
-pub fn eliminate(
-    alloc: Global,
-    p: u8,
-    n: u32,
-    equations: &[Equation],
-) -> Result<Elim, NoMemory>
+/// Solves equations over `n` variables modulo the prime `p`, by Gaussian elimination that carries the
+/// multipliers along. Answers a clash exactly where no values meet all equations. Goes for each equation
+/// over at most `n` rows, of at most `2n + 2` numbers, and keeps these rows and one more.
+pub fn eliminate(alloc: Global, p: u8, n: u32, equations: &[Equation]) -> Result<Elim, NoMemory>
     requires prime { IsSmallPrime p }
     requires few_variables { n ≤ 40 }
     requires few { length equations.now ≤ 4096 }

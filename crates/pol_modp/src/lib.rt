@@ -7,6 +7,7 @@ mod combination;
 mod complement;
 mod elimination;
 mod equation;
+mod laws;
 mod pivots;
 mod row_steps;
 mod sums;
@@ -16,3 +17,9 @@ pub use combination::{Combination, Part};
 pub use complement::null_space;
 pub use elimination::{Elim, eliminate};
 pub use equation::Equation;
+pub use laws::{clash_laws, fault_laws};
+
+#[cfg(test)]
+mod combination_tests;
+#[cfg(test)]
+mod equation_tests;

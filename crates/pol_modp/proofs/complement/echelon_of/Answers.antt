@@ -32,7 +32,7 @@ loop-i-preserved c =
             few = omega (arith, ap length now, c.loop-i.invariant.few);
             basis = subst (λ (rows : List PivotView). IsBasis p n equations (i + 1) rows) (sym now)
                 (basis-skip p n equations c.requires.equations i basis row known is reduced
-                  (λ k low. ap (λ some. get_or some k 0) (sym c.deref-in-loop-i.ensures.value) ∙ w.in-None.ensures.none k low)
-                  (right_stays_zero p n equations c.requires.equations (at_least_two p c.requires.prime) c.requires.homogeneous i basis row known is reduced));
+                (λ k low. ap (λ some. get_or some k 0) (sym c.deref-in-loop-i.ensures.value) ∙ w.in-None.ensures.none k low)
+                (right_stays_zero p n equations c.requires.equations (at_least_two p c.requires.prime) c.requires.homogeneous i basis row known is reduced));
           }
     ]

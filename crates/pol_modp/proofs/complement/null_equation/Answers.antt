@@ -17,6 +17,7 @@ made p n f basis ys e long below last free is =
   where
     next : n + 1 + 1 ≡ n + 2
     next = omega arith
+
     split : ys ≡ (take n ys ++ get_or ys n 0 ∷ []) ++ 0 ∷ []
     split = sym (take_all (n + 1 + 1) ys (omega (arith, long))) ∙ (take_more ys (n + 1) 0 (omega (arith, long)) ∙ (ap (λ a. take (n + 1) ys ++ a ∷ []) last ∙ ap (λ front. front ++ 0 ∷ []) (take_more ys n 0 (omega (arith, long)))))
 

@@ -37,7 +37,7 @@ loop-i-preserved c =
             few = omega (arith, ap length now, c.loop-i.invariant.few);
             basis = subst (λ (rows : List PivotView). IsBasis p n equations (i + 1) rows) (sym now)
                 (basis-skip p n equations c.requires.equations i basis row known is reduced
-                  (λ k low. ap (λ some. get_or some k 0) (sym c.deref-in-loop-i.ensures.value) ∙ w.in-None.ensures.none k low)
-                  (sym right ∙ w.if-index-ne0.false));
+                (λ k low. ap (λ some. get_or some k 0) (sym c.deref-in-loop-i.ensures.value) ∙ w.in-None.ensures.none k low)
+                (sym right ∙ w.if-index-ne0.false));
           }
     ]

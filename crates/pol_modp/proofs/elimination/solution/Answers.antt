@@ -17,6 +17,6 @@ returns c =
     record {
       solution = IfOk-weaker c.from_slice.result (λ (values : List ℕ). values ≡ take n c.deref.result.now) (IsCommonSolution p n c.args.equations.now)
           (λ values same. common_solution p n c.args.equations.now c.args.basis.now ys values (omega (arith, c.requires.positive)) c.requires.equations c.requires.basis long c.settle.ensures.below c.settle.ensures.last c.settle.ensures.vanish
-            (same ∙ ap (take n) (c.deref.ensures.value ∙ back)))
+          (same ∙ ap (take n) (c.deref.ensures.value ∙ back)))
           c.from_slice.ensures.ok;
     }

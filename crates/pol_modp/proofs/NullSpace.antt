@@ -54,8 +54,8 @@ module _ (p n : ℕ) (some : 2 ≤ p) where
     pub only_rows : (S : List ℕ → Type 0) → IsAffineSet p n S → All S rows → (base : List ℕ) → S base → (x : List ℕ) → IsTuple p n x → All (MeetsEquation p x) equations → S x
     only_rows S affine rows_in base base_in x is_x meets =
         complete p n some rows vectors basis is x is_x (λ f low free.
-          let found = nulls.all f low free in
-          (whole found.equation ++ 0 ∷ [], found.null.free, null_from_meets x found.equation is_x.long found.null.is_equation.long (All-contains (MeetsEquation p x) equations found.equation meets found.among)))
+        let found = nulls.all f low free in
+        (whole found.equation ++ 0 ∷ [], found.null.free, null_from_meets x found.equation is_x.long found.null.is_equation.long (All-contains (MeetsEquation p x) equations found.equation meets found.among)))
         S affine rows_in base base_in
 
     -- without rows no place is a pivot, and the equation of the last one says 0 = 1
@@ -66,15 +66,20 @@ module _ (p n : ℕ) (some : 2 ≤ p) where
         let ys = whole e ++ 0 ∷ [] in
         let long = found.null.is_equation.long in
         let whole_long : length (whole e) ≡ n + 1 = omega (arith, length_push e.coefs e.right, long) in
-        let right : e.right ≡ 1 = sym (get_or_append_left (whole e) (0 ∷ []) 0 n (omega (arith, whole_long)) ∙ get_or_at e.coefs e.right [] 0 n long) ∙ found.null.free.one in
-        (found.among.0, e, found.among.1, found.among.2, record {
-          long = long;
-          zeros = λ v d inside.
-              let differs : v ≢ n = omega (arith, inside, long) in
-              let here = found.null.free.zeros v differs (λ j b low. absurd (omega (arith, low, no_pivot))) in
-              get_or_default e.coefs v d 0 inside ∙ (sym (get_or_append_left (whole e) (0 ∷ []) 0 v (omega (arith, whole_long, inside, long)) ∙ get_or_append_left e.coefs (e.right ∷ []) 0 v inside) ∙ here);
-          nonzero = λ vanishes. absurd (one_nonzero e.right p some right vanishes);
-        })
+        let right : e.right ≡ 1 = sym (get_or_append_left (whole e) (0 ∷ []) 0 n (omega (arith, whole_long)) ∙ get_or_at e.coefs e.right [] 0 n long) ∙ found.null.free.one in (
+          found.among.0,
+          e,
+          found.among.1,
+          found.among.2,
+          record {
+            long = long;
+            zeros = λ v d inside.
+                let differs : v ≢ n = omega (arith, inside, long) in
+                let here = found.null.free.zeros v differs (λ j b low. absurd (omega (arith, low, no_pivot))) in
+                get_or_default e.coefs v d 0 inside ∙ (sym (get_or_append_left (whole e) (0 ∷ []) 0 v (omega (arith, whole_long, inside, long)) ∙ get_or_append_left e.coefs (e.right ∷ []) 0 v inside) ∙ here);
+            nonzero = λ vanishes. absurd (one_nonzero e.right p some right vanishes);
+          },
+        )
       where
         no_pivot : length basis ≡ 0
         no_pivot = by basis is.sources
@@ -82,8 +87,10 @@ module _ (p n : ℕ) (some : 2 ≤ p) where
             by : (bs : List PivotView) → All (λ (b : PivotView). b.source < length (map (row_equation p) rows)) bs → length bs ≡ 0
             by [] low = refl
             by (b ∷ bs) low = absurd (omega (arith, All-head (λ (c : PivotView). c.source < length (map (row_equation p) rows)) b bs low, length-map rows (row_equation p), ap length none))
+
         free : All (λ (b : PivotView). b.pivot ≢ n) basis
         free = λ j b low. absurd (omega (arith, low, no_pivot))
+
         one_nonzero : (r p : ℕ) → 2 ≤ p → r ≡ 1 → r % p ≡ 0 → ⊥
         one_nonzero r p some one vanishes = let small : r < p = omega (arith, some, one) in absurd (omega (arith, sym (mod-eq_of_lt small) ∙ vanishes, one))
 

@@ -1,0 +1,12 @@
+ghost use Rattle.pol_modp.specs.Laws.{ClashesRefute, ValidCombinationsHaveNoFault, FirstFaultsAreOne};
+
+/// Multipliers of a clash show that no values meet the equations.
+pub fn clash_laws()
+    ensures refute { ClashesRefute }
+{}
+
+/// A combination has no first fault where it is valid, and never two.
+pub fn fault_laws()
+    ensures valid { ValidCombinationsHaveNoFault }
+    ensures one { FirstFaultsAreOne }
+{}
