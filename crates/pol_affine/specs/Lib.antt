@@ -1,0 +1,3 @@
+pub mod RelationEquations
+pub mod Systems
+pub mod Answers
