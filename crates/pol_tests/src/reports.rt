@@ -55,7 +55,7 @@ fn reports_of_small_files(rt: HostRuntime) -> Result<(), Fail> {
         ),
         (
             b"polyanna 1|domain 3|relation s0 3|tuple 0 0 0|tuple 0 1 2|tuple 0 2 1|tuple 1 0 2|tuple 1 1 1|tuple 1 2 0|tuple 2 0 1|tuple 2 1 0|tuple 2 2 2|relation s1 3|tuple 0 0 1|tuple 0 1 0|tuple 0 2 2|tuple 1 0 0|tuple 1 1 2|tuple 1 2 1|tuple 2 0 2|tuple 2 1 1|tuple 2 2 0|relation zero 1|tuple 0|instance i x y z|constraint s0 x y z|constraint s1 x y z|instance j x y|constraint zero x|constraint s1 x x y|end|",
-            b"polyanna-report 1|class constant none|class semilattice none|class set-function none|class majority none|class nu4 none|class affine 0 1 2 2 0 1 1 2 0 1 2 0 0 1 2 2 0 1 2 0 1 1 2 0 0 1 2|class maltsev 0 1 2 2 0 1 1 2 0 1 2 0 0 1 2 2 0 1 2 0 1 1 2 0 0 1 2|instance i undecided|instance j undecided|end|",
+            b"polyanna-report 1|class constant none|class semilattice none|class set-function none|class majority none|class nu4 none|class affine 0 1 2 2 0 1 1 2 0 1 2 0 0 1 2 2 0 1 2 0 1 1 2 0 0 1 2|class maltsev 0 1 2 2 0 1 1 2 0 1 2 0 0 1 2 2 0 1 2 0 1 1 2 0 0 1 2|instance i no affine 2 0 1 2|part 0 1 0 1 1 1|part 1 2 1 1 1 1|instance j yes affine 0 1|end|",
         ),
         (
             b"polyanna 1|domain 3|relation parity 3|tuple 0 0 0|tuple 0 1 1|tuple 1 0 1|tuple 1 1 0|relation swap 2|tuple 0 1|tuple 1 0|tuple 2 2|relation two 1|tuple 2|end|",
