@@ -7,3 +7,6 @@ mod solving;
 
 pub use equations::{Equations, equations_of};
 pub use solving::{SumAnswer, solve_affine};
+
+#[cfg(test)]
+mod tests;

@@ -1,0 +1,418 @@
+ghost use Rattle.std.specs.Prelude.{◌≡◌, IsTrue, IfOk};
+ghost use Rattle.pol_optable.specs.Operations.{IsPolymorphism};
+
+use crate::{SumAnswer, equations_of, solve_affine};
+use pol_base::{Domain, Values};
+use pol_identity::Affine;
+use pol_modp::{Equation, check_combination};
+use pol_optable::OpTable;
+use pol_relation::{Instance, Language, Relation};
+use std::alloc::Global;
+use std::process::Abort;
+use std::test::Fail;
+
+/// A relation: its arity, and its rows, one behind another.
+type Rows = (u32, &'static [u8]);
+
+/// A constraint: the number of its relation, and its scope.
+type On = (u32, &'static [u32]);
+
+/// Labels, the size of the domain, the relations, the number of variables, and the constraints.
+type Written = ([u8; 5], u32, &'static [Rows], u32, &'static [On]);
+
+const NATURAL: [u8; 5] = [0, 1, 2, 3, 4];
+
+const NO_ROWS: Rows = (2, &[]);
+
+const EVEN: Rows = (3, &[0, 0, 0, 0, 1, 1, 1, 0, 1, 1, 1, 0]);
+
+const ODD: Rows = (3, &[0, 0, 1, 0, 1, 0, 1, 0, 0, 1, 1, 1]);
+
+/// The three values that add up to 0 modulo 3, and those that add up to 1.
+const SUM_IS_0: Rows = (
+    3,
+    &[
+        0, 0, 0, 0, 1, 2, 0, 2, 1, 1, 0, 2, 1, 1, 1, 1, 2, 0, 2, 0, 1, 2, 1, 0, 2, 2, 2,
+    ],
+);
+
+const SUM_IS_1: Rows = (
+    3,
+    &[
+        0, 0, 1, 0, 1, 0, 0, 2, 2, 1, 0, 0, 1, 1, 2, 1, 2, 1, 2, 0, 2, 2, 1, 1, 2, 2, 0,
+    ],
+);
+
+/// Labels 3 and 4 change places.
+const TURNED: [u8; 5] = [0, 1, 2, 4, 3];
+
+/// The pairs whose labels add up to 0 modulo 5, where 3 and 4 have the labels 4 and 3.
+const OPPOSITE: Rows = (2, &[0, 0, 1, 3, 2, 4, 3, 1, 4, 2]);
+
+/// Labels, and relations that their operations preserve.
+static DESCRIBED: [([u8; 5], u32, Rows); 8] = [
+    (NATURAL, 2, EVEN),
+    (NATURAL, 2, NO_ROWS),
+    (NATURAL, 3, SUM_IS_1),
+    ([1, 0, 2, 0, 0], 3, SUM_IS_1),
+    (NATURAL, 3, (2, &[0, 0, 0, 1, 0, 2, 1, 0, 1, 1, 1, 2, 2, 0, 2, 1, 2, 2])),
+    (NATURAL, 5, (1, &[3])),
+    (TURNED, 5, OPPOSITE),
+    (NATURAL, 5, (2, &[0, 1, 1, 3, 2, 0, 3, 2, 4, 4])),
+];
+
+/// Instances with one solution, and that solution.
+static SOLVED: [(Written, &'static [u8]); 5] = [
+    ((NATURAL, 2, &[], 0, &[]), &[]),
+    (
+        (NATURAL, 2, &[ODD, (1, &[1])], 2, &[(0, &[0, 0, 1]), (1, &[0])]),
+        &[1, 1],
+    ),
+    (
+        (
+            NATURAL,
+            3,
+            &[SUM_IS_0, SUM_IS_1, (1, &[2])],
+            3,
+            &[(2, &[2]), (0, &[0, 1, 2]), (1, &[0, 0, 1])],
+        ),
+        &[0, 1, 2],
+    ),
+    (
+        (TURNED, 5, &[OPPOSITE, (1, &[1])], 2, &[(1, &[0]), (0, &[0, 1])]),
+        &[1, 3],
+    ),
+    (
+        (
+            TURNED,
+            5,
+            &[OPPOSITE, (1, &[4])],
+            3,
+            &[(0, &[0, 1]), (0, &[1, 2]), (1, &[2])],
+        ),
+        &[4, 2, 4],
+    ),
+];
+
+/// Instances without a solution.
+static UNSOLVED: [Written; 5] = [
+    (NATURAL, 2, &[NO_ROWS], 2, &[(0, &[0, 1])]),
+    (NATURAL, 2, &[NO_ROWS, EVEN], 3, &[(1, &[0, 1, 2]), (0, &[0, 0])]),
+    (NATURAL, 2, &[EVEN, (1, &[1])], 2, &[(0, &[0, 0, 1]), (1, &[1])]),
+    (
+        NATURAL,
+        3,
+        &[SUM_IS_0, SUM_IS_1],
+        3,
+        &[(0, &[0, 1, 2]), (1, &[2, 0, 1])],
+    ),
+    (
+        TURNED,
+        5,
+        &[OPPOSITE, (1, &[1])],
+        1,
+        &[(0, &[0, 0]), (1, &[0])],
+    ),
+];
+
+/// Scopes of three places over three variables.
+static SCOPES: [&'static [u32]; 6] = [
+    &[0, 1, 2],
+    &[2, 0, 1],
+    &[0, 0, 1],
+    &[1, 2, 2],
+    &[1, 1, 1],
+    &[2, 1, 2],
+];
+
+fn described() -> &'static [([u8; 5], u32, Rows)] {
+    &DESCRIBED
+}
+
+fn solved() -> &'static [(Written, &'static [u8])] {
+    &SOLVED
+}
+
+fn unsolved() -> &'static [Written] {
+    &UNSOLVED
+}
+
+fn scopes() -> &'static [&'static [u32]] {
+    &SCOPES
+}
+
+#[test]
+fn the_equations_have_the_rows_alone_as_solutions(rt: HostRuntime) -> Result<(), Fail> {
+    for (labels, size, rows) in described() {
+        same_rows(&rt, rt.alloc(), *labels, *size, rows)?;
+    }
+    Ok(())
+}
+
+#[test]
+fn finds_the_one_solution(rt: HostRuntime) -> Result<(), Fail> {
+    for (written, values) in solved() {
+        let found = solution(&rt, rt.alloc(), written)?.ok_or("a solution")?;
+        assert_eq!(rt; found.as_slice(), *values, "not {values:?}");
+    }
+    Ok(())
+}
+
+#[test]
+fn without_a_solution_there_is_a_combination(rt: HostRuntime) -> Result<(), Fail> {
+    for written in unsolved() {
+        assert!(rt; solution(&rt, rt.alloc(), written)?.is_none());
+    }
+    Ok(())
+}
+
+#[test]
+fn decides_as_all_assignments_do(rt: HostRuntime) -> Result<(), Fail> {
+    let systems: [(u32, &'static [Rows]); 2] = [(2, &[EVEN, ODD]), (3, &[SUM_IS_0, SUM_IS_1])];
+    for (size, relations) in systems {
+        let language = language(&rt, rt.alloc(), size, relations)?;
+        for first in scopes() {
+            for second in scopes() {
+                for third in scopes() {
+                    let constraints = [(0, *first), (1, *second), (1, *third)];
+                    decides(&rt, rt.alloc(), &language, &constraints)?;
+                }
+            }
+        }
+    }
+    Ok(())
+}
+
+#[test]
+fn goes_to_the_limits(rt: HostRuntime) -> Result<(), Fail> {
+    let alloc = rt.alloc();
+    let d = Domain::new(5).expect(&rt, "five values");
+    let mut language = Language::new(alloc, d);
+    language.add(b"zero", sums_of_four(&rt, alloc, d, 0)?)?;
+    language.add(b"one", sums_of_four(&rt, alloc, d, 1)?)?;
+    let mut wide = instance(&rt, alloc, 40, &[])?;
+    for c in 0..255u32 {
+        let scope = [c % 40, (c + 1) % 40, (c * 7 + 2) % 40, (c / 40 + 3) % 40];
+        add(&rt, &mut wide, 1, &scope)?;
+    }
+    let values = answer(&rt, alloc, &language, &wide, NATURAL)?.ok_or("a solution")?;
+    assert!(rt; is_solution(&rt, &language, &wide, values.as_slice()));
+    add(&rt, &mut wide, 0, &[0, 1, 2, 3])?;
+    assert!(rt; answer(&rt, alloc, &language, &wide, NATURAL)?.is_none());
+    Ok(())
+}
+
+/// The four values with this sum modulo 5.
+fn sums_of_four(
+    rt: &impl Abort,
+    alloc: Global,
+    d: Domain,
+    right: u8,
+) -> Result<Relation, Fail>
+    ensures domain { IfOk result (λ r. r.domain ≡ d) }
+{
+    let mut sums = Relation::new(alloc, d, 4);
+    for number in 0..125u8 {
+        let (x, y, z) = (number / 25, number / 5 % 5, number % 5);
+        let row = [x, y, z, (right % 5 + 15 - x - y - z) % 5];
+        assert!(rt; row.iter().all(|value| *value < d.size()));
+        sums.insert(&row)?;
+    }
+    Ok(sums)
+}
+
+/// That the instance of three variables is decided as by all its assignments.
+fn decides(
+    rt: &impl Abort,
+    alloc: Global,
+    language: &Language,
+    constraints: &[On],
+) -> Result<(), Fail> {
+    let instance = instance(rt, alloc, 3, constraints)?;
+    let found = answer(rt, alloc, language, &instance, NATURAL)?;
+    let size = language.domain().size();
+    let mut solvable = false;
+    for x in 0..size {
+        for y in 0..size {
+            for z in 0..size {
+                if is_solution(rt, language, &instance, &[x, y, z]) {
+                    solvable = true;
+                }
+            }
+        }
+    }
+    match found {
+        Some(values) => assert!(rt; is_solution(rt, language, &instance, values.as_slice())),
+        None => assert!(rt; !solvable, "at {constraints:?}"),
+    }
+    Ok(())
+}
+
+fn is_solution(
+    rt: &impl Abort,
+    language: &Language,
+    instance: &Instance,
+    assignment: &[u8],
+) -> bool {
+    let d = language.domain().size();
+    assert!(rt; instance.fits(language));
+    assert!(rt; assignment.len() == instance.variables() as usize);
+    assert!(rt; assignment.iter().all(|value| *value < d));
+    instance.is_solution(language, assignment)
+}
+
+/// The solution of the instance. None where there is none, and the combination shows it.
+fn solution(rt: &impl Abort, alloc: Global, written: &Written) -> Result<Option<Values>, Fail> {
+    let (labels, size, relations, variables, constraints) = written;
+    let language = language(rt, alloc, *size, relations)?;
+    let instance = instance(rt, alloc, *variables, constraints)?;
+    answer(rt, alloc, &language, &instance, *labels)
+}
+
+fn answer(
+    rt: &impl Abort,
+    alloc: Global,
+    language: &Language,
+    instance: &Instance,
+    labels: [u8; 5],
+) -> Result<Option<Values>, Fail> {
+    let affine = Affine::new(language.domain(), labels).ok_or("a labelling")?;
+    let op = affine.table(alloc)?;
+    assert!(rt; op.domain() == language.domain());
+    assert!(rt; preserves(&op, language));
+    assert!(rt; instance.fits(language));
+    assert!(rt; instance.variables() <= 40);
+    assert!(rt; instance.constraints() <= 256);
+    match solve_affine(alloc, language, instance, &op)? {
+        SumAnswer::Yes(values) => Ok(Some(values)),
+        SumAnswer::No(combination) => {
+            assert_eq!(rt; check_combination(language, instance, &combination), Ok(()));
+            for i in 0..combination.len() {
+                assert!(rt; combination.part(i).multiplier != 0);
+            }
+            Ok(None)
+        }
+    }
+}
+
+/// Whether the operation preserves each relation of the language.
+fn preserves(op: &OpTable<3>, language: &Language) -> bool
+    requires domain { op.now.domain ≡ language.now.domain }
+    ensures preserves { IsTrue result → IsPolymorphism op.now language.now }
+{
+    for i in 0..language.len() {
+        if !op.preserves(language.relation(i)) {
+            return false;
+        }
+    }
+    true
+}
+
+/// That of all tuples exactly the rows meet the equations.
+fn same_rows(
+    rt: &impl Abort,
+    alloc: Global,
+    labels: [u8; 5],
+    size: u32,
+    rows: &Rows,
+) -> Result<(), Fail> {
+    let d = Domain::new(size).expect(rt, "a domain");
+    let (arity, rows) = rows;
+    let relation = relation(rt, alloc, d, *arity, rows)?;
+    let affine = Affine::new(d, labels).ok_or("a labelling")?;
+    let op = affine.table(alloc)?;
+    assert!(rt; op.domain() == relation.domain());
+    assert!(rt; op.preserves(&relation));
+    let equations = equations_of(alloc, &relation, labels)?;
+    assert!(rt; 1 <= *arity && *arity <= 3);
+    for x in 0..d.size() {
+        for y in 0..d.size() {
+            for z in 0..d.size() {
+                let tuple = &[x, y, z][..*arity as usize];
+                assert!(rt; tuple.iter().all(|value| *value < d.size()));
+                assert!(rt; tuple.len() == relation.arity() as usize && relation.domain() == d);
+                let meets = (0..equations.len())
+                    .all(|i| is_met(rt, d.size(), equations.get(i), labels, tuple));
+                assert_eq!(rt; meets, relation.has(tuple), "at {tuple:?}");
+            }
+        }
+    }
+    Ok(())
+}
+
+/// Whether the labels of the tuple meet the equation.
+fn is_met(
+    rt: &impl Abort,
+    size: u8,
+    equation: &Equation,
+    labels: [u8; 5],
+    tuple: &[u8],
+) -> bool {
+    let mut sum = 0u32;
+    for (i, value) in tuple.iter().enumerate() {
+        assert!(rt; i < equation.coefs().len() && *value < 5 && sum < 1000);
+        sum += u32::from(equation.coefs()[i]) * u32::from(labels[*value as usize]);
+    }
+    assert!(rt; 0 < size);
+    sum % u32::from(size) == u32::from(equation.right())
+}
+
+fn relation(
+    rt: &impl Abort,
+    alloc: Global,
+    d: Domain,
+    arity: u32,
+    rows: &[u8],
+) -> Result<Relation, Fail>
+    ensures domain { IfOk result (λ r. r.domain ≡ d) }
+    ensures arity { IfOk result (λ r. r.arity ≡ arity) }
+{
+    let size = d.size();
+    assert!(rt; 1 <= arity && arity <= 6);
+    assert!(rt; rows.len() % arity as usize == 0);
+    assert!(rt; rows.iter().all(|value| *value < size));
+    Ok(Relation::from_rows(alloc, d, arity, rows)?)
+}
+
+fn language(
+    rt: &impl Abort,
+    alloc: Global,
+    size: u32,
+    relations: &[Rows],
+) -> Result<Language, Fail> {
+    let d = Domain::new(size).expect(rt, "a domain");
+    let mut language = Language::new(alloc, d);
+    for (arity, rows) in relations {
+        let d = language.domain();
+        assert!(rt; language.len() < 26);
+        let name = [b'a' + language.len() as u8];
+        language.add(&name, relation(rt, alloc, d, *arity, rows)?)?;
+    }
+    Ok(language)
+}
+
+fn instance(
+    rt: &impl Abort,
+    alloc: Global,
+    variables: u32,
+    constraints: &[On],
+) -> Result<Instance, Fail> {
+    let mut instance = Instance::new(alloc, b"small")?;
+    for x in 0..variables {
+        assert!(rt; x < 100 && instance.variables() < 100);
+        instance.add_variable(&[x as u8])?;
+    }
+    for (relation, scope) in constraints {
+        add(rt, &mut instance, *relation, scope)?;
+    }
+    Ok(instance)
+}
+
+fn add(rt: &impl Abort, instance: &mut Instance, relation: u32, scope: &[u32]) -> Result<(), Fail> {
+    let variables = instance.variables();
+    assert!(rt; 1 <= scope.len() && scope.len() <= 6);
+    assert!(rt; scope.iter().all(|x| *x < variables));
+    assert!(rt; instance.constraints() < 256);
+    instance.add_constraint(relation, scope)?;
+    Ok(())
+}
