@@ -49,7 +49,7 @@ sum_below-point (suc n) x a g inside = by (eqb x n) refl (λ less. sum_below-poi
         by_less differs = let apart = eqb-false x n differs in omega (arith, apart, inside)
 
 -- a part read at its scope, by variables
-by_variables : (n : ℕ) (scope coefs : List ℕ) (g : ℕ → ℕ) → All (λ x. x < n) scope → dot coefs (map g scope) ≡ sum_below n (λ v. weight_at v scope coefs * g v)
+pub by_variables : (n : ℕ) (scope coefs : List ℕ) (g : ℕ → ℕ) → All (λ x. x < n) scope → dot coefs (map g scope) ≡ sum_below n (λ v. weight_at v scope coefs * g v)
 by_variables n [] coefs g below = dot-nil coefs ∙ sym (sum_below-zero n (λ v. 0 * g v) (λ v. by (g v)))
   where
     by : (k : ℕ) → 0 * k ≡ 0
