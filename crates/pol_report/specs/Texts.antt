@@ -65,7 +65,7 @@ part_line p =
 abbrev pub no_sum_item : List ℕ → CombinationView → List ℕ
 no_sum_item name sum =
     instance_line name (codes "no" ∷ class_word Affine ∷ decimal (length sum.parts) ∷ map decimal sum.labels)
-        ++ joined part_line sum.parts
+    ++ joined part_line sum.parts
 
 -- the item of an instance that is not answered
 abbrev pub undecided_item : List ℕ → List ℕ

@@ -137,12 +137,7 @@ fn put_no_sum(out: &mut Values, name: &[u8], combination: &Combination) -> Resul
 }
 
 /// Appends the line of a No, with the number of the parts of its combination and the labels.
-fn put_no_sum_line(
-    out: &mut Values,
-    name: &[u8],
-    parts: u32,
-    labels: &[u8],
-) -> Result<(), NoMemory>
+fn put_no_sum_line(out: &mut Values, name: &[u8], parts: u32, labels: &[u8]) -> Result<(), NoMemory>
     ensures puts { Puts result out.old out.new
         (instance_line name.now (codes "no" ∷ class_word Affine ∷ decimal parts ∷ map decimal labels.now)) }
 {
