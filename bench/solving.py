@@ -5,12 +5,11 @@
 
 A file has one instance: 10, 20 or 40 variables and 30 to 256 constraints at random. They are drawn as they come
 (`free`), or so that hidden values meet them, and there is a solution (`hidden`); where a relation lets two values take
-turns, also with a ring of it, of odd length through half of the variables, and hidden values of the others (`ring`): there
-is no solution, and arc consistency does not show it. Of each kind there are three, and the line has their answers, the
-most steps that are printed, and the most processor time: that of a whole run (the best of three) less that of the language
-without the instance. Each run has so much address space,
-libraries included, as its class may take, and must end with status 0 in it. With a FAMILY, those whose names contain it
-are run alone.
+turns, also with a ring of it, of odd length through half of the variables, and hidden values of the others (`ring`):
+there is no solution, and arc consistency does not show it. Of each kind there are three, and the line has their
+answers, the most steps that are printed, and the most processor time: that of a whole run (the best of three) less that
+of the language without the instance. Each run has so much address space, libraries included, as its class may take, and
+must end with status 0 in it. With a FAMILY, those whose names contain it are run alone.
 
 Wanted: by arcs (semilattice operations and set functions) an answer within 10 ms, by majority operations within 50 ms,
 each in 16 MiB; by operations of arity four within 1 s, in 128 MiB.
@@ -82,7 +81,8 @@ def families():
         yield f"medians over {size} values", "majority", size, relations + constants(0, size - 1), None
     for size, arity in ((5, 4), (3, 6)):
         relations = [clauses(size, arity, 4, 1)] + [clauses(size, 2, 3, seed) for seed in range(4)]
-        yield f"medians of {arity} places over {size} values", "majority", size, relations + constants(0, size - 1), None
+        relations += constants(0, size - 1)
+        yield f"medians of {arity} places over {size} values", "majority", size, relations, None
     for size in (2, 3, 5):
         rows = [(x, y, z) for x, y, z in full(size, 3) if z >= min(x, y)]
         rows = rows if len(rows) <= MOST_ROWS else closed(size, 3, 60, 1)
@@ -199,7 +199,8 @@ def main():
                 kinds = ("free", "hidden", "ring") if ring else ("free", "hidden")
                 lines = [measure(path, family, kind, variables, count, alone) for kind in kinds]
                 good &= all(held for _, held in lines)
-                print(f"  {variables} variables, {count} constraints: {'; '.join(line for line, _ in lines)}", flush=True)
+                told = "; ".join(line for line, _ in lines)
+                print(f"  {variables} variables, {count} constraints: {told}", flush=True)
     sys.exit(0 if good else 1)
 
 

@@ -1,4 +1,4 @@
-ghost use Rattle.std.specs.Prelude.{◌≡◌, length};
+ghost use Rattle.std.specs.Prelude.{◌≡◌, ◌≤◌, length};
 ghost use Rattle.pol_relation.specs.Instances.{Fits};
 ghost use Rattle.pol_optable.specs.Choices.{AreLines};
 
@@ -136,7 +136,7 @@ fn assert_answers(
     let all = candidates(alloc, file.lang())?;
     for i in 0..all.len() {
         for j in 0..i + 1 {
-            for k in 0..if i < triples { j + 1 } else { 1 } {
+            for k in 0..last_third(i, j, triples) + 1 {
                 let inst = instance(rt, alloc, file.lang(), &[all[i], all[j], all[k]])?;
                 assert!(rt; inst.fits(file.lang()) && inst.variables() == 3);
                 let answered = is_answered(alloc, file.lang(), &inst, &classes)?;
@@ -145,6 +145,13 @@ fn assert_answers(
         }
     }
     Ok(())
+}
+
+/// The last candidate that may follow two others: one up to the second of them, or that of no constraint.
+fn last_third(first: usize, second: usize, triples: usize) -> usize
+    ensures within { result ≤ second }
+{
+    if first < triples { second } else { 0 }
 }
 
 /// No constraint, and all constraints on three variables.
