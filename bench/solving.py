@@ -1,5 +1,5 @@
 #!/usr/bin/env python3
-"""Times `polyanna report` on instances of each class that answers with a log, beside their languages alone, in one run.
+"""Times `polyanna report` on instances of each class that has a solver, beside their languages alone, in one run.
 
     bench/solving.py [FAMILY]    makes the files in a temporary folder, and prints a line for each size of each family
 
@@ -7,12 +7,12 @@ A file has one instance: 10, 20 or 40 variables and 30 to 256 constraints at ran
 (`free`), or so that hidden values meet them, and there is a solution (`hidden`); where a relation lets two values take
 turns, also with a ring of it, of odd length through half of the variables, and hidden values of the others (`ring`):
 there is no solution, and arc consistency does not show it. Of each kind there are three, and the line has their
-answers, the most steps that are printed, and the most processor time: that of a whole run (the best of three) less that
+answers, the most steps or parts that are printed, and the most processor time: that of a whole run (the best of three) less that
 of the language without the instance. Each run has so much address space, libraries included, as its class may take, and
 must end with status 0 in it. With a FAMILY, those whose names contain it are run alone.
 
 Wanted: by arcs (semilattice operations and set functions) an answer within 10 ms, by majority operations within 50 ms,
-each in 16 MiB; by operations of arity four within 1 s, in 128 MiB.
+each in 16 MiB; by operations of arity four within 1 s, in 128 MiB; by affine operations within 20 ms, in 16 MiB.
 """
 import itertools
 import os
@@ -26,7 +26,7 @@ TOP = os.path.dirname(os.path.dirname(os.path.abspath(__file__)))
 PROGRAM = os.path.join(TOP, "crates", "polyanna", "out", "polyanna")
 MEBIBYTE = 1 << 20
 # the most milliseconds and MiB of the class that answers
-LIMITS = {"semilattice": (10, 16), "set-function": (10, 16), "majority": (50, 16), "nu4": (1000, 128)}
+LIMITS = {"semilattice": (10, 16), "set-function": (10, 16), "majority": (50, 16), "nu4": (1000, 128), "affine": (20, 16)}
 # the cubes of the numbers of rows of a language sum to at most 2^21
 MOST_ROWS = 100
 SIZES = [(10, 30), (10, 60), (20, 30), (20, 60), (20, 120), (40, 30), (40, 60), (40, 120), (40, 256)]
@@ -97,6 +97,9 @@ def families():
         name = f"arity four, of {arity} places over {size} values"
         yield name, "nu4", size, [few_ones(arity), apart], apart
         yield f"{name}, some fixed", "nu4", size, [few_ones(arity)] * 3 + [apart] + constants(*range(size)), apart
+    for size, arity in ((2, 6), (3, 4), (5, 3)):
+        sums = [[row for row in full(size, arity) if sum(row) % size == right] for right in (0, 1)]
+        yield f"sums of {arity} places modulo {size}", "affine", size, sums, None
 
 
 def text(size, relations, variables, constraints):
@@ -176,7 +179,7 @@ def measure(path, family, kind, variables, count, alone):
         slowest, steps = max(slowest, spent - alone), max(steps, number)
         told.append(said if status == 0 and chosen == wanted else f"{said} by {chosen} with status {status}")
         good &= status == 0 and chosen == wanted and spent - alone <= most
-    logs = f" in at most {steps} steps" if steps else ""
+    logs = f" in at most {steps} {'parts' if wanted == 'affine' else 'steps'}" if steps else ""
     return f"{kind} {', '.join(told)}{logs}, {slowest:.1f} ms{'' if good else ' MISSED'}", good
 
 
