@@ -6,6 +6,7 @@ use crate::harness::lines;
 use pol_base::{ClassName, Domain, NoMemory, cells, digit};
 use pol_classify::classify;
 use pol_lang::{File, read_file};
+use pol_modp::check_combination;
 use pol_nogood::check_log;
 use pol_optable::Classes;
 use pol_relation::{Instance, Language};
@@ -112,6 +113,24 @@ fn instances_of_operations_of_arity_four(rt: HostRuntime) -> Result<(), Fail> {
     Ok(())
 }
 
+#[test]
+fn instances_of_affine_operations(rt: HostRuntime) -> Result<(), Fail> {
+    let languages: [(&[u8], usize); 2] = [
+        (
+            b"polyanna 1|domain 2|relation odd 3|tuple 0 0 1|tuple 0 1 0|tuple 1 0 0|tuple 1 1 1|relation zero 1|tuple 0|end|",
+            6,
+        ),
+        (
+            b"polyanna 1|domain 3|relation one 3|tuple 0 0 1|tuple 0 1 0|tuple 0 2 2|tuple 1 0 0|tuple 1 1 2|tuple 1 2 1|tuple 2 0 2|tuple 2 1 1|tuple 2 2 0|relation zero 1|tuple 0|end|",
+            0,
+        ),
+    ];
+    for (language, triples) in languages {
+        assert_answers(&rt, rt.alloc(), language, ClassName::Affine, triples)?;
+    }
+    Ok(())
+}
+
 /// The file that is written with a bar for each LF.
 fn read(rt: &impl Abort, alloc: Global, text: &[u8]) -> Result<File, Fail> {
     let bytes = lines(alloc, text)?;
@@ -121,8 +140,8 @@ fn read(rt: &impl Abort, alloc: Global, text: &[u8]) -> Result<File, Fail> {
 }
 
 /// Each instance of three variables with at most two constraints of the language, or with three of the
-/// first so many, is answered by the class: with a solution, or with a log where the list of all
-/// assignments has none.
+/// first so many, is answered by the class: with a solution, or with a log or a combination where the
+/// list of all assignments has none.
 fn assert_answers(
     rt: &impl Abort,
     alloc: Global,
@@ -138,7 +157,9 @@ fn assert_answers(
         for j in 0..i + 1 {
             for k in 0..last_third(i, j, triples) + 1 {
                 let inst = instance(rt, alloc, file.lang(), &[all[i], all[j], all[k]])?;
-                assert!(rt; inst.fits(file.lang()) && inst.variables() == 3);
+                assert!(rt;
+                    inst.fits(file.lang()) && inst.variables() == 3 && inst.constraints() <= 3
+                );
                 let answered = is_answered(alloc, file.lang(), &inst, &classes)?;
                 assert!(rt; answered, "at {i} {j} {k}");
             }
@@ -215,7 +236,8 @@ fn add_constraint(
     Ok(())
 }
 
-/// Whether the answer is a solution, or a valid log where the list of all assignments has no solution.
+/// Whether the answer is a solution, or a valid log or combination where the list of all assignments has
+/// no solution.
 fn is_answered(
     alloc: Global,
     lang: &Language,
@@ -224,12 +246,16 @@ fn is_answered(
 ) -> Result<bool, NoMemory>
     requires fits { Fits lang.now inst.now }
     requires three { length inst.now.variables ≡ 3 }
+    requires few { length inst.now.constraints ≤ 3 }
     requires lines { AreLines lang.now classes.now }
 {
     Ok(match answer(alloc, lang, inst, classes)? {
         InstanceAnswer::Yes(values) => is_solution(lang, inst, values.as_slice()),
         InstanceAnswer::NoLog(log) => {
             check_log(lang, inst, &log).is_ok() && !has_solution(lang, inst)
+        }
+        InstanceAnswer::NoSum(combination) => {
+            check_combination(lang, inst, &combination).is_ok() && !has_solution(lang, inst)
         }
         InstanceAnswer::Undecided => false,
     })
