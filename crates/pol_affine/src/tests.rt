@@ -1,7 +1,7 @@
 ghost use Rattle.std.specs.Prelude.{◌≡◌, IsTrue, IfOk};
 ghost use Rattle.pol_optable.specs.Operations.{IsPolymorphism};
 
-use crate::{SumAnswer, equations_of, solve_affine};
+use crate::{Equations, SumAnswer, equations_of, solve_affine};
 use pol_base::{Domain, Values};
 use pol_identity::Affine;
 use pol_modp::{Equation, check_combination};
@@ -211,14 +211,12 @@ fn sums_of_four(
 ) -> Result<Relation, Fail>
     ensures domain { IfOk result (λ r. r.domain ≡ d) }
 {
-    let mut sums = Relation::new(alloc, d, 4);
+    let mut rows = Values::new(alloc);
     for number in 0..125u8 {
         let (x, y, z) = (number / 25, number / 5 % 5, number % 5);
-        let row = [x, y, z, (right % 5 + 15 - x - y - z) % 5];
-        assert!(rt; row.iter().all(|value| *value < d.size()));
-        sums.insert(&row)?;
+        rows.append(&[x, y, z, (right % 5 + 15 - x - y - z) % 5])?;
     }
-    Ok(sums)
+    relation(rt, alloc, d, 4, rows.as_slice())
 }
 
 /// That the instance of three variables is decided as by all its assignments.
@@ -319,11 +317,7 @@ fn same_rows(
     let d = Domain::new(size).expect(rt, "a domain");
     let (arity, rows) = rows;
     let relation = relation(rt, alloc, d, *arity, rows)?;
-    let affine = Affine::new(d, labels).ok_or("a labelling")?;
-    let op = affine.table(alloc)?;
-    assert!(rt; op.domain() == relation.domain());
-    assert!(rt; op.preserves(&relation));
-    let equations = equations_of(alloc, &relation, labels)?;
+    let equations = equations(rt, alloc, &relation, labels)?;
     assert!(rt; 1 <= *arity && *arity <= 3);
     for x in 0..d.size() {
         for y in 0..d.size() {
@@ -331,13 +325,42 @@ fn same_rows(
                 let tuple = &[x, y, z][..*arity as usize];
                 assert!(rt; tuple.iter().all(|value| *value < d.size()));
                 assert!(rt; tuple.len() == relation.arity() as usize && relation.domain() == d);
-                let meets = (0..equations.len())
-                    .all(|i| is_met(rt, d.size(), equations.get(i), labels, tuple));
+                let meets = are_met(rt, d.size(), &equations, labels, tuple);
                 assert_eq!(rt; meets, relation.has(tuple), "at {tuple:?}");
             }
         }
     }
     Ok(())
+}
+
+/// The equations of the relation, which the operation of the labels has to preserve.
+fn equations(
+    rt: &impl Abort,
+    alloc: Global,
+    relation: &Relation,
+    labels: [u8; 5],
+) -> Result<Equations, Fail> {
+    let affine = Affine::new(relation.domain(), labels).ok_or("a labelling")?;
+    let op = affine.table(alloc)?;
+    assert!(rt; op.domain() == relation.domain());
+    assert!(rt; op.preserves(relation));
+    Ok(equations_of(alloc, relation, labels)?)
+}
+
+/// Whether the labels of the tuple meet all equations.
+fn are_met(
+    rt: &impl Abort,
+    size: u8,
+    equations: &Equations,
+    labels: [u8; 5],
+    tuple: &[u8],
+) -> bool {
+    for i in 0..equations.len() {
+        if !is_met(rt, size, equations.get(i), labels, tuple) {
+            return false;
+        }
+    }
+    true
 }
 
 /// Whether the labels of the tuple meet the equation.
