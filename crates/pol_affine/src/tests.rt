@@ -53,7 +53,7 @@ const OPPOSITE: Rows = (2, &[0, 0, 1, 3, 2, 4, 3, 1, 4, 2]);
 static DESCRIBED: [([u8; 5], u32, Rows); 8] = [
     (NATURAL, 2, EVEN),
     (NATURAL, 2, NO_ROWS),
-    (NATURAL, 3, SUM_IS_1),
+    ([0, 1, 2, 0, 0], 3, SUM_IS_1),
     ([1, 0, 2, 0, 0], 3, SUM_IS_1),
     (NATURAL, 3, (2, &[0, 0, 0, 1, 0, 2, 1, 0, 1, 1, 1, 2, 2, 0, 2, 1, 2, 2])),
     (NATURAL, 5, (1, &[3])),
