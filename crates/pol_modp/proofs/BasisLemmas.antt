@@ -4,7 +4,7 @@ use Rattle.std.specs.Prelude.{replicate}
 use Rattle.std.proofs.Math.Nat.{zero-mod, mod-eq_of_lt}
 use Rattle.std.proofs.lemmas.Bool.{cases_eq}
 use Rattle.std.proofs.lemmas.List.{take-append-le, take_at, get_or_append_left, get_or_push, length_push, length-append, length-replicate, length-map}
-use Rattle.std.proofs.lemmas.List.Elements.{All-nil, All-push, All-append, All-replicate, All-weaker}
+use Rattle.std.proofs.lemmas.List.Elements.{All-push, All-append, All-replicate, All-weaker}
 use Rattle.pol_modp.specs.Equations.{EquationView, IsEquation, IsSmallPrime, dot}
 use Rattle.pol_modp.proofs.Modular.{mul_zero, cancel}
 use Rattle.pol_modp.proofs.DotLemmas.{dot-front}
@@ -58,14 +58,6 @@ below-long_row p n e k some is =
 -- on lists of n + 1 numbers the long row is the equation
 pub dot-long_row : (p n : ℕ) (e : EquationView) (k : ℕ) (ys : List ℕ) → IsEquation p n e → length ys ≡ n + 1 → dot (long_row p e k) ys ≡ dot (whole e) ys
 dot-long_row p n e k ys is long = dot-front (whole e) (replicate k 0 ++ (p - 1) ∷ []) ys (omega (arith, long, length-whole p n e is))
-
-pub basis-none : (p n : ℕ) (equations : List EquationView) → IsBasis p n equations 0 []
-basis-none p n equations = record {
-  echelon = λ j d inside. absurd (omega (arith, inside));
-  sources = All-nil (λ (b : PivotView). b.source < 0);
-  derived = λ ys vanish. All-nil (λ (b : PivotView). Vanishes p b.cells ys);
-  implies = λ ys long vanish e before. absurd (omega (arith, before));
-}
 
 -- a list of numbers that begins with zeros, as far as the other list goes
 dot-nothing : (xs ys : List ℕ) → ((c : ℕ) → c < length ys → get_or xs c 0 ≡ 0) → dot xs ys ≡ 0

@@ -69,7 +69,7 @@ fn echelon_of(
     for i in 0..equations.len() {
         let row = reduced(alloc, p, n, equations, i, &basis)?;
         match first_nonzero(&row, n) {
-            Some(pivot) => basis.push(normalized(p, n, row, pivot, i as u32))?,
+            Some(pivot) => basis.push(normalized(p, row, pivot, i as u32))?,
             None => {}
         }
     }

@@ -36,7 +36,7 @@ pub fn eliminate(alloc: Global, p: u8, n: u32, equations: &[Equation]) -> Result
     for i in 0..equations.len() {
         let row = reduced(alloc, p, n, equations, i, &basis)?;
         match first_nonzero(&row, n) {
-            Some(pivot) => basis.push(normalized(p, n, row, pivot, i as u32))?,
+            Some(pivot) => basis.push(normalized(p, row, pivot, i as u32))?,
             None if row[n as usize] != 0 => {
                 return Ok(Elim::Clash(multipliers(alloc, p, n, equations, i, &basis, &row)?));
             }
@@ -67,7 +67,7 @@ pub fn reduced(
 }
 
 /// The reduced row as one more of the echelon, with a 1 at its pivot.
-pub fn normalized(p: u8, n: u32, row: Vec<u8>, pivot: u32, source: u32) -> PivotRow
+pub fn normalized(p: u8, row: Vec<u8>, pivot: u32, source: u32) -> PivotRow
     requires prime { IsSmallPrime p }
     requires below { All (λ v. v < p) row.items }
     requires known { pivot < length row.items }
