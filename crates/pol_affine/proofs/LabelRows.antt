@@ -68,24 +68,24 @@ module _ (f : Operation) (d n : ℕ) (labels a b c : List ℕ) where
       let range = range_with_len 0 n in
       let long = length-labels labels (map value range) ∙ (length-map range value ∙ sym (length-map range sum)) in
       ext_get_or 0 (labels_of labels (map value range)) (map sum range) long (λ i inside.
-        let within : i < n = omega (arith, inside, length-labels labels (map value range), length-map range value, length-range_with_len 0 n) in
-        let here : i < length (map value range) = omega (arith, within, length-map range value, length-range_with_len 0 n) in
-        let in_a : i < length a = omega (arith, within, is_a.long) in
-        let in_b : i < length b = omega (arith, within, is_b.long) in
-        let in_c : i < length c = omega (arith, within, is_c.long) in
-        let x = get_or a i 0 in
-        let y = get_or b i 0 in
-        let z = get_or c i 0 in
-        let x_below : x < f.domain = omega (arith, same, is_a.below i 0 in_a) in
-        let y_below : y < f.domain = omega (arith, same, is_b.below i 0 in_b) in
-        let z_below : z < f.domain = omega (arith, same, is_c.below i 0 in_c) in
-        let summed = affine.sums x y z x_below y_below z_below in
-        read-labels labels (map value range) i here
-        ∙ (ap (λ v. get_or labels v 0) (get_or-map-range_with_len value 0 n i i 0 within (omega arith))
-        ∙ (summed
-        ∙ (ap (λ e. affine_sum e (get_or labels x 0) (get_or labels y 0) (get_or labels z 0)) same
-        ∙ (sym (same_sum d _ _ _ _ _ _ (read-labels labels a i in_a) (read-labels labels b i in_b) (read-labels labels c i in_c))
-        ∙ sym (get_or-map-range_with_len sum 0 n i i 0 within (omega arith)))))))
+      let within : i < n = omega (arith, inside, length-labels labels (map value range), length-map range value, length-range_with_len 0 n) in
+      let here : i < length (map value range) = omega (arith, within, length-map range value, length-range_with_len 0 n) in
+      let in_a : i < length a = omega (arith, within, is_a.long) in
+      let in_b : i < length b = omega (arith, within, is_b.long) in
+      let in_c : i < length c = omega (arith, within, is_c.long) in
+      let x = get_or a i 0 in
+      let y = get_or b i 0 in
+      let z = get_or c i 0 in
+      let x_below : x < f.domain = omega (arith, same, is_a.below i 0 in_a) in
+      let y_below : y < f.domain = omega (arith, same, is_b.below i 0 in_b) in
+      let z_below : z < f.domain = omega (arith, same, is_c.below i 0 in_c) in
+      let summed = affine.sums x y z x_below y_below z_below in
+      read-labels labels (map value range) i here
+      ∙ (ap (λ v. get_or labels v 0) (get_or-map-range_with_len value 0 n i i 0 within (omega arith))
+      ∙ (summed
+      ∙ (ap (λ e. affine_sum e (get_or labels x 0) (get_or labels y 0) (get_or labels z 0)) same
+      ∙ (sym (same_sum d _ _ _ _ _ _ (read-labels labels a i in_a) (read-labels labels b i in_b) (read-labels labels c i in_c))
+      ∙ sym (get_or-map-range_with_len sum 0 n i i 0 within (omega arith)))))))
 
 module _ (labels : List ℕ) (r : RelationView) (is : IsRelation r) (labelling : IsLabelling r.domain labels) where
   row_tuple : (row : List ℕ) → Contains r.rows row → IsTuple r.domain r.arity row
@@ -115,8 +115,9 @@ module _ (labels : List ℕ) (r : RelationView) (is : IsRelation r) (labelling :
   pub rows_alone : (equations : List EquationView) → All (λ x. All (MeetsEquation r.domain x) equations) (map (labels_of labels) r.rows)
       → ((x : List ℕ) → IsTuple r.domain r.arity x → All (MeetsEquation r.domain x) equations → Contains (map (labels_of labels) r.rows) x)
       → RowsMeetAlone labels r equations
-  rows_alone equations meet only values tuple =
-      ( λ meets.
+  rows_alone equations meet only values tuple = (
+    λ meets.
         let of = row_of labels r.rows (labels_of labels values) (only (labels_of labels values) (labels-tuple r.domain r.arity labels values labelling tuple) meets) in
-        subst (Contains r.rows) (same_values r.domain r.arity labels of.row values labelling (row_tuple of.row of.listed) tuple of.same) of.listed
-      , λ listed. All-contains (λ x. All (MeetsEquation r.domain x) equations) (map (labels_of labels) r.rows) (labels_of labels values) meet (in_map (labels_of labels) r.rows values listed) )
+        subst (Contains r.rows) (same_values r.domain r.arity labels of.row values labelling (row_tuple of.row of.listed) tuple of.same) of.listed,
+    λ listed. All-contains (λ x. All (MeetsEquation r.domain x) equations) (map (labels_of labels) r.rows) (labels_of labels values) meet (in_map (labels_of labels) r.rows values listed),
+  )

@@ -82,12 +82,16 @@ module _ (inst : InstanceView) (tables : List (List EquationView)) where
       where
         split : count_at k (placed_in inst tables (suc c)) ≡ count_at k (placed_in inst tables c) + count_at k (map (placed_at c) (equations_at inst tables c))
         split = sum_by-append (λ (p : PlacedView). if eqb p.constraint k then 1 else 0) (placed_in inst tables c) (map (placed_at c) (equations_at inst tables c))
+
         step : (a b s : ℕ) → s ≡ a + b → a ≡ 0 → b ≤ 7 → s ≤ 7
         step a b s sum first second = omega arith
+
         other_step : (a b s : ℕ) → s ≡ a + b → a ≤ 7 → b ≡ 0 → s ≤ 7
         other_step a b s sum first second = omega arith
+
         few_more : (a b : ℕ) → a ≤ b → b ≤ 7 → a ≤ 7
         few_more a b first second = omega arith
+
         by : (c ≡ k) ⊎ (c ≡ k → ⊥) → count_at k (placed_in inst tables c) ≤ 7 → count_at k (placed_in inst tables (suc c)) ≤ 7
         by (inl same) before = step _ _ _ split (count-later k c (omega (arith, same))) (few_more _ _ (count-map-most k c (equations_at inst tables c)) (few c (omega arith)))
         by (inr other) before = other_step _ _ _ split before (count-map-other k c other (equations_at inst tables c))

@@ -73,9 +73,9 @@ module _ (lang : LanguageView) (inst : InstanceView) (labels : List ℕ) (tables
         right_below = omega (arith, is.right_below, same);
         coefs_below = subst (λ (b : ℕ). All (λ a. a < b) equation.coefs) same is.below;
         implied = λ j t listed.
-          let row = get_or rows j t in
-          let met = ((describes c inside).rows row ((over c inside).is_relation.tuples j t listed)).1 (j, listed, get_or_default rows j row t listed) in
-          subst (λ (b : ℕ). MeetsEquation b (labels_of labels row) equation) same (met k e low);
+            let row = get_or rows j t in
+            let met = ((describes c inside).rows row ((over c inside).is_relation.tuples j t listed)).1 (j, listed, get_or_default rows j row t listed) in
+            subst (λ (b : ℕ). MeetsEquation b (labels_of labels row) equation) same (met k e low);
       }
 
   all_true : All (IsTrueAt lang inst labels) placed
@@ -136,12 +136,12 @@ module _ (lang : LanguageView) (inst : InstanceView) (labels : List ℕ) (tables
         = record {
           long = length-map scope (λ x. get_or assignment x 0) ∙ fit.long;
           below = All-map (λ v. v < (relation_of lang (constraint_of inst c).relation).domain) (λ x. get_or assignment x 0) scope
-          (λ j e low. omega (arith, same, assigns.below (get_or scope j e) 0 (omega (arith, fit.below j e low, assigns.long))));
+              (λ j e low. omega (arith, same, assigns.below (get_or scope j e) 0 (omega (arith, fit.below j e low, assigns.long))));
         } in
         let each = placed-each inst tables IsMet (length inst.constraints) c inside all_met in
         ((describes c inside).rows (read_at assignment scope) tuple).0 (λ j e low.
-          subst (λ xs. MeetsEquation (relation_of lang (constraint_of inst c).relation).domain xs (get_or (equations_at inst tables c) j e)) (sym (labels_read scope fit.below))
-          (subst (λ (b : ℕ). MeetsEquation b (read_at values scope) (get_or (equations_at inst tables c) j e)) (sym same) (each j e low)))
+        subst (λ xs. MeetsEquation (relation_of lang (constraint_of inst c).relation).domain xs (get_or (equations_at inst tables c) j e)) (sym (labels_read scope fit.below))
+        (subst (λ (b : ℕ). MeetsEquation b (read_at values scope) (get_or (equations_at inst tables c) j e)) (sym same) (each j e low)))
 
     pub solution : IsSolution lang inst assignment
     solution = record {
@@ -155,8 +155,8 @@ module _ (lang : LanguageView) (inst : InstanceView) (labels : List ℕ) (tables
     valid = record {
       labels = record { many = labelling.tuple.long; below = labelling.tuple.below };
       placed = used-all lang.domain (IsTrueAt lang inst labels) (IsPlaced lang inst)
-        (λ m p below nonzero true. record { known = true.known; as_many = true.as_many; multiplier_below = below; right_below = true.right_below; coefs_below = true.coefs_below })
-        ms placed clash.below all_true;
+          (λ m p below nonzero true. record { known = true.known; as_many = true.as_many; multiplier_below = below; right_below = true.right_below; coefs_below = true.coefs_below })
+          ms placed clash.below all_true;
       implied = used-all lang.domain (IsTrueAt lang inst labels) (IsImplied lang inst labels) (λ m p below nonzero true. true.implied) ms placed clash.below all_true;
       coefs_zero = λ v inside. used-sum lang.domain inst v inside ms placed ∙ clash.coefs_zero v inside;
       right_nonzero = λ none. clash.right_nonzero (sym (ap (λ s. s % lang.domain) (used-right lang.domain inst ms placed)) ∙ none);

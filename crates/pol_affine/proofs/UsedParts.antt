@@ -58,8 +58,10 @@ used-few k (m ∷ ms) (p ∷ placed) = by (eqb m 0) (used-few k ms placed)
   where
     step : (x y z u w : ℕ) → x ≤ y → z ≡ u + y → w ≡ u + x → w ≤ z
     step x y z u w less first second = omega arith
+
     wait : (x y z u : ℕ) → x ≤ y → z ≡ u + y → x ≤ z
     wait x y z u less first = omega arith
+
     by : (b : Bool) → parts_at k (used_parts ms placed) ≤ count_by (λ (p : PlacedView). eqb p.constraint k) placed
         → parts_at k (if b then used_parts ms placed else part_with m p ∷ used_parts ms placed) ≤ count_by (λ (p : PlacedView). eqb p.constraint k) (p ∷ placed)
     by true rest = wait _ _ _ (if eqb p.constraint k then 1 else 0) rest (sum_by-cons (λ (p : PlacedView). if eqb p.constraint k then 1 else 0) p placed)

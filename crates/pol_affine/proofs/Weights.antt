@@ -79,8 +79,8 @@ module _ (d n : ℕ) (scope coefs : List ℕ) (i : ℕ) where
       let length_old = length-weights d n (take i scope) (take i coefs) in
       let long = length-set old x new ∙ (length_old ∙ sym (length-weights d n (take (suc i) scope) (take (suc i) coefs))) in
       ext_get_or 0 (set old x new) all long (λ v low.
-        let v_low : v < n = omega (arith, low, length-set old x new, length_old) in
-        more_at inside within known v v_low (cases_eq v x))
+      let v_low : v < n = omega (arith, low, length-set old x new, length_old) in
+      more_at inside within known v v_low (cases_eq v x))
 
 -- factors that are the same modulo p
 sum_below-modulo : (p n : ℕ) (f h g : ℕ → ℕ) → ((v : ℕ) → v < n → f v % p ≡ h v % p) → sum_below n (λ v. f v * g v) % p ≡ sum_below n (λ v. h v * g v) % p

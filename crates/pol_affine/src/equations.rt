@@ -71,11 +71,7 @@ impl Equations {
 /// The rows are closed under the operation that the labels turn into x - y + z, so that their labels are a
 /// coset of a linear subspace, and the equations span what vanishes on it. (P. Jeavons, D. Cohen and
 /// M. Gyssens, Closure properties of constraints, Journal of the ACM 44, 1997.)
-pub fn equations_of(
-    alloc: Global,
-    r: &Relation,
-    labels: [u8; 5],
-) -> Result<Equations, NoMemory>
+pub fn equations_of(alloc: Global, r: &Relation, labels: [u8; 5]) -> Result<Equations, NoMemory>
     requires size { IsAffineSize r.now.domain }
     requires labelling { IsLabelling r.now.domain (take r.now.domain labels) }
     requires preserved { IsPreservedBy (take r.now.domain labels) r.now }

@@ -124,12 +124,7 @@ fn is_used(inst: &Instance, r: u32) -> bool
 }
 
 /// The values that have the labels.
-fn values_of(
-    alloc: Global,
-    d: Domain,
-    labels: &[u8],
-    found: &[u8],
-) -> Result<Values, NoMemory>
+fn values_of(alloc: Global, d: Domain, labels: &[u8], found: &[u8]) -> Result<Values, NoMemory>
     requires labelling { IsLabelling d labels.now }
     requires below { All (λ l. l < d) found.now }
     ensures values { IfOk result (λ values. values ≡ map (labelled labels.now) found.now) }

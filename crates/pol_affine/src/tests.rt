@@ -53,9 +53,13 @@ const OPPOSITE: Rows = (2, &[0, 0, 1, 3, 2, 4, 3, 1, 4, 2]);
 static DESCRIBED: [([u8; 5], u32, Rows); 8] = [
     (NATURAL, 2, EVEN),
     (NATURAL, 2, NO_ROWS),
-    (NATURAL, 3, SUM_IS_1),
+    ([0, 1, 2, 0, 0], 3, SUM_IS_1),
     ([1, 0, 2, 0, 0], 3, SUM_IS_1),
-    (NATURAL, 3, (2, &[0, 0, 0, 1, 0, 2, 1, 0, 1, 1, 1, 2, 2, 0, 2, 1, 2, 2])),
+    (
+        NATURAL,
+        3,
+        (2, &[0, 0, 0, 1, 0, 2, 1, 0, 1, 1, 1, 2, 2, 0, 2, 1, 2, 2]),
+    ),
     (NATURAL, 5, (1, &[3])),
     (TURNED, 5, OPPOSITE),
     (NATURAL, 5, (2, &[0, 1, 1, 3, 2, 0, 3, 2, 4, 4])),
@@ -65,7 +69,13 @@ static DESCRIBED: [([u8; 5], u32, Rows); 8] = [
 static SOLVED: [(Written, &'static [u8]); 5] = [
     ((NATURAL, 2, &[], 0, &[]), &[]),
     (
-        (NATURAL, 2, &[ODD, (1, &[1])], 2, &[(0, &[0, 0, 1]), (1, &[0])]),
+        (
+            NATURAL,
+            2,
+            &[ODD, (1, &[1])],
+            2,
+            &[(0, &[0, 0, 1]), (1, &[0])],
+        ),
         &[1, 1],
     ),
     (
@@ -79,7 +89,13 @@ static SOLVED: [(Written, &'static [u8]); 5] = [
         &[0, 1, 2],
     ),
     (
-        (TURNED, 5, &[OPPOSITE, (1, &[1])], 2, &[(1, &[0]), (0, &[0, 1])]),
+        (
+            TURNED,
+            5,
+            &[OPPOSITE, (1, &[1])],
+            2,
+            &[(1, &[0]), (0, &[0, 1])],
+        ),
         &[1, 3],
     ),
     (
@@ -97,8 +113,20 @@ static SOLVED: [(Written, &'static [u8]); 5] = [
 /// Instances without a solution.
 static UNSOLVED: [Written; 5] = [
     (NATURAL, 2, &[NO_ROWS], 2, &[(0, &[0, 1])]),
-    (NATURAL, 2, &[NO_ROWS, EVEN], 3, &[(1, &[0, 1, 2]), (0, &[0, 0])]),
-    (NATURAL, 2, &[EVEN, (1, &[1])], 2, &[(0, &[0, 0, 1]), (1, &[1])]),
+    (
+        NATURAL,
+        2,
+        &[NO_ROWS, EVEN],
+        3,
+        &[(1, &[0, 1, 2]), (0, &[0, 0])],
+    ),
+    (
+        NATURAL,
+        2,
+        &[EVEN, (1, &[1])],
+        2,
+        &[(0, &[0, 0, 1]), (1, &[1])],
+    ),
     (
         NATURAL,
         3,
@@ -203,12 +231,7 @@ fn goes_to_the_limits(rt: HostRuntime) -> Result<(), Fail> {
 }
 
 /// The four values with this sum modulo 5.
-fn sums_of_four(
-    rt: &impl Abort,
-    alloc: Global,
-    d: Domain,
-    right: u8,
-) -> Result<Relation, Fail>
+fn sums_of_four(rt: &impl Abort, alloc: Global, d: Domain, right: u8) -> Result<Relation, Fail>
     ensures domain { IfOk result (λ r. r.domain ≡ d) }
 {
     let mut rows = Values::new(alloc);
@@ -364,13 +387,7 @@ fn are_met(
 }
 
 /// Whether the labels of the tuple meet the equation.
-fn is_met(
-    rt: &impl Abort,
-    size: u8,
-    equation: &Equation,
-    labels: [u8; 5],
-    tuple: &[u8],
-) -> bool {
+fn is_met(rt: &impl Abort, size: u8, equation: &Equation, labels: [u8; 5], tuple: &[u8]) -> bool {
     let mut sum = 0u32;
     for (i, value) in tuple.iter().enumerate() {
         assert!(rt; i < equation.coefs().len() && *value < 5 && sum < 1000);

@@ -39,5 +39,5 @@ returns-clause-rows c =
     = c.deref.ensures.value ∙ (c.in_ok-rows.ensures.rows ∙ ap (λ k. map (labels_of (take k c.args.labels)) r.rows) from_is) in
     let meet = carried (λ p n rows. All (λ x. All (MeetsEquation p x) equations) rows) c.size-size.result r.domain c.arity.result r.arity c.deref.result.now (map (labels_of labels) r.rows) size_is c.arity.ensures.arity rows_are c.in_ok-null_space.ensures.rows_meet in
     let only = carried (λ p n rows. IsAffineSet p n (Contains rows) → (x : List ℕ) → IsTuple p n x → All (MeetsEquation p x) equations → Contains rows x)
-      c.size-size.result r.domain c.arity.result r.arity c.deref.result.now (map (labels_of labels) r.rows) size_is c.arity.ensures.arity rows_are c.in_ok-null_space.ensures.only_rows in
+    c.size-size.result r.domain c.arity.result r.arity c.deref.result.now (map (labels_of labels) r.rows) size_is c.arity.ensures.arity rows_are c.in_ok-null_space.ensures.only_rows in
     rows_alone labels r c.domain.ensures.relation c.requires.labelling equations meet (only (labels-affine labels r c.domain.ensures.relation c.requires.labelling c.requires.preserved))

@@ -25,6 +25,6 @@ loop-i-preserved c =
     let known : x < n = c.requires.scope i 0 (omega (arith, inside, c.requires.as_many)) in
     let more
     = ap (λ m. set c.loop-i.row x ((get_or c.loop-i.row x 0 + get_or coefs i 0) % m)) c.size-size.ensures.size
-        ∙ (ap (λ row. set row x ((get_or row x 0 + get_or coefs i 0) % d)) c.loop-i.invariant.0
-        ∙ (weights-more d n scope coefs i inside (omega (arith, c.requires.as_many)) known ∙ ap (λ k. weights d n (take k scope) (take k coefs)) next)) in
+    ∙ (ap (λ row. set row x ((get_or row x 0 + get_or coefs i 0) % d)) c.loop-i.invariant.0
+    ∙ (weights-more d n scope coefs i inside (omega (arith, c.requires.as_many)) known ∙ ap (λ k. weights d n (take k scope) (take k coefs)) next)) in
     (more, subst (All (λ a. a < d)) (sym more) (weights-below d n (take (i + 1) scope) (take (i + 1) coefs) c.size-size.ensures.within.some))

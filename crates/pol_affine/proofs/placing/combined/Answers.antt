@@ -23,15 +23,17 @@ loop-i-preserved c =
           let part = part_named w.in_ok-part_with.field-0 in
           let part_is : part ≡ part_with m (get_or placed i e) = w.in_ok-part_with.ensures.part ∙ ap (part_with m) w.index-placed-i.is in
           let now : c.if-multipliers-i-ne0.combination ≡ record { labels = c.loop-i.combination.labels; parts = c.loop-i.combination.parts ++ part ∷ [] }
-          = w.combination-is ∙ w.in_ok-push.ensures.ok in
-          ( ap (λ (all : CombinationView). all.labels) now ∙ c.loop-i.invariant.0
-          , ap (λ (all : CombinationView). all.parts) now
-            ∙ (ap (λ parts. parts ++ part ∷ []) c.loop-i.invariant.1
-            ∙ (ap (λ (p : PartView). used_parts (take i ms) (take i placed) ++ p ∷ []) part_is
-            ∙ (used-yes ms placed i e c.requires.as_many inside w.if-multipliers-i-ne0.true ∙ parts_next)))
-          , omega (arith, ap (λ (all : CombinationView). length all.parts) now, length_push c.loop-i.combination.parts part, c.loop-i.invariant.2) )
-      | else-multipliers-i-ne0 w ↦
-          ( ap (λ (all : CombinationView). all.labels) w.combination-is ∙ c.loop-i.invariant.0
-          , ap (λ (all : CombinationView). all.parts) w.combination-is ∙ (c.loop-i.invariant.1 ∙ (used-no ms placed i c.requires.as_many inside w.if-multipliers-i-ne0.false ∙ parts_next))
-          , omega (arith, ap (λ (all : CombinationView). length all.parts) w.combination-is, c.loop-i.invariant.2) )
+          = w.combination-is ∙ w.in_ok-push.ensures.ok in (
+            ap (λ (all : CombinationView). all.labels) now ∙ c.loop-i.invariant.0,
+            ap (λ (all : CombinationView). all.parts) now
+                ∙ (ap (λ parts. parts ++ part ∷ []) c.loop-i.invariant.1
+                ∙ (ap (λ (p : PartView). used_parts (take i ms) (take i placed) ++ p ∷ []) part_is
+                ∙ (used-yes ms placed i e c.requires.as_many inside w.if-multipliers-i-ne0.true ∙ parts_next))),
+            omega (arith, ap (λ (all : CombinationView). length all.parts) now, length_push c.loop-i.combination.parts part, c.loop-i.invariant.2),
+          )
+      | else-multipliers-i-ne0 w ↦ (
+        ap (λ (all : CombinationView). all.labels) w.combination-is ∙ c.loop-i.invariant.0,
+        ap (λ (all : CombinationView). all.parts) w.combination-is ∙ (c.loop-i.invariant.1 ∙ (used-no ms placed i c.requires.as_many inside w.if-multipliers-i-ne0.false ∙ parts_next)),
+        omega (arith, ap (λ (all : CombinationView). length all.parts) w.combination-is, c.loop-i.invariant.2),
+      )
     ]

@@ -64,9 +64,9 @@ returns-in-Values-clause-yes c =
     let system_is = c.deref-3.ensures.value ∙ (c.in_ok-system.ensures.equations ∙ (ap (λ d. map (spread_over d inst) c.deref-2.result.now) c.domain-d.ensures.domain ∙ ap (map (spread_over lang.domain inst)) placed_is)) in
     let solves = subst (ValuesSolve c.size-2.result c.variables.result c.deref-3.result.now) c.in-Values.is c.in_ok-values.ensures.values in
     let values_are = c.in_ok-values_of-in-Values.ensures.values
-        ∙ (ap (λ k. map (labelled (take k c.args.labels)) c.as_slice.result.now) from_is ∙ ap (map (labelled labels)) c.as_slice.ensures.items) in
+    ∙ (ap (λ k. map (labelled (take k c.args.labels)) c.as_slice.result.now) from_is ∙ ap (map (labelled labels)) c.as_slice.ensures.items) in
     let common = carried (λ p n system. IsCommonSolution p n system c.in-Values.values) c.size-2.result lang.domain c.variables.result (length inst.variables) c.deref-3.result.now (map (spread_over lang.domain inst) placed)
-        size_is c.variables.ensures.variables system_is solves in
+    size_is c.variables.ensures.variables system_is solves in
     subst (IsSolution lang inst) (sym values_are)
     (solution lang inst labels tables c.domain-d.ensures.language c.requires.fits c.requires.labelling c.in_ok-tables.ensures.many c.in_ok-tables.ensures.described c.in-Values.values common)
 
@@ -95,12 +95,12 @@ returns-clause-certificate c =
     let system_is = c.deref-3.ensures.value ∙ (c.in_ok-system.ensures.equations ∙ (ap (λ d. map (spread_over d inst) c.deref-2.result.now) c.domain-d.ensures.domain ∙ ap (map (spread_over lang.domain inst)) (c.deref-2.ensures.value ∙ items_are))) in
     let shown = subst (ClashIsShown c.size-2.result c.variables.result c.deref-3.result.now) c.in-Clash.is c.in_ok-values.ensures.clash in
     let clash = carried (λ p n system. IsClash p n system c.in-Clash.multipliers) c.size-2.result lang.domain c.variables.result (length inst.variables) c.deref-3.result.now (map (spread_over lang.domain inst) placed)
-        size_is c.variables.ensures.variables system_is shown in
+    size_is c.variables.ensures.variables system_is shown in
     let made : List ℕ → List ℕ → List PlacedView → CombinationView = λ some ms all. record { labels = some; parts = used_parts ms all } in
     let combination_is = c.in_ok-combined-in-Clash.ensures.combined
-        ∙ (ap (λ k. made (take k c.args.labels) c.as_slice-in-Clash.result.now c.deref-in-Clash.result.now) from_is
-        ∙ (ap (λ ms. made labels ms c.deref-in-Clash.result.now) c.as_slice-in-Clash.ensures.items
-        ∙ ap (made labels c.in-Clash.multipliers) (c.deref-in-Clash.ensures.value ∙ items_are))) in
+    ∙ (ap (λ k. made (take k c.args.labels) c.as_slice-in-Clash.result.now c.deref-in-Clash.result.now) from_is
+    ∙ (ap (λ ms. made labels ms c.deref-in-Clash.result.now) c.as_slice-in-Clash.ensures.items
+    ∙ ap (made labels c.in-Clash.multipliers) (c.deref-in-Clash.ensures.value ∙ items_are))) in
     subst (IsSumCertificate lang inst) (sym combination_is)
     (certificate lang inst labels tables c.domain-d.ensures.language c.requires.fits c.requires.labelling c.in_ok-tables.ensures.many c.in_ok-tables.ensures.described c.in-Clash.multipliers clash)
 

@@ -38,11 +38,12 @@ loop-r-preserved c =
     let r = c.loop-r.r in
     let labels = take lang.domain c.args.labels in
     let equations : List EquationView = c.if-is_used.equations in
-    subst (λ (tables : List (List EquationView)). (length tables ≡ r + 1) × DescribeUsed labels lang inst tables) (sym c.in_ok-push.ensures.items)
-    ( length_push c.loop-r.tables.items equations ∙ ap (λ k. k + 1) c.loop-r.invariant.0
-    , described-more labels lang inst c.loop-r.tables.items r equations c.loop-r.invariant.0 c.loop-r.invariant.1 (λ k inside same.
-        elim c.if-is_used.branch [
-          | then-is_used+in_ok-equations w ↦ subst (Describes labels (relation_of lang r)) (sym w.equations-is)
-              (describes lang.domain c.args.labels w.relation.result.now (relation_of lang r) _ w.relation.ensures.over w.relation.ensures.relation w.in_ok-equations.ensures.few w.in_ok-equations.ensures.equations w.in_ok-equations.ensures.rows)
-          | else-is_used w ↦ absurd (w.if-is_used.ensures.unused k inside same)
-        ]) )
+    subst (λ (tables : List (List EquationView)). (length tables ≡ r + 1) × DescribeUsed labels lang inst tables) (sym c.in_ok-push.ensures.items) (
+      length_push c.loop-r.tables.items equations ∙ ap (λ k. k + 1) c.loop-r.invariant.0,
+      described-more labels lang inst c.loop-r.tables.items r equations c.loop-r.invariant.0 c.loop-r.invariant.1 (λ k inside same.
+          elim c.if-is_used.branch [
+            | then-is_used+in_ok-equations w ↦ subst (Describes labels (relation_of lang r)) (sym w.equations-is)
+                (describes lang.domain c.args.labels w.relation.result.now (relation_of lang r) _ w.relation.ensures.over w.relation.ensures.relation w.in_ok-equations.ensures.few w.in_ok-equations.ensures.equations w.in_ok-equations.ensures.rows)
+            | else-is_used w ↦ absurd (w.if-is_used.ensures.unused k inside same)
+          ]),
+    )
