@@ -1,30 +1,34 @@
-ghost use Rattle.std.specs.Prelude.{◌≡◌, ◌<◌, ◌≤◌, [], ◌∷◌, ◌++◌, length, OnOk, OnErr};
-ghost use Rattle.pol_base.specs.Tuples.{IsTuple};
+ghost use Rattle.std.specs.Prelude.{◌≡◌, ℕ, ◌<◌, ◌≤◌, [], ◌∷◌, ◌++◌, length, slice_index, OnOk, OnErr};
+ghost use Rattle.pol_base.specs.Tuples.{IsTuple, cell_of};
 ghost use Rattle.pol_optable.specs.Operations.{image};
 ghost use Rattle.pol_rows.specs.RowLists.{RowsView, IsRows, row_of};
+ghost use Rattle.pol_rows.specs.RowOrders.{AreAscending};
 
 use pol_base::{Domain, NoMemory, Values};
 use pol_optable::OpTable;
 use std::alloc::Global;
 use std::marker::Model;
 
-/// Tuples of one width, in the order in which they came. They stand one behind another in one list.
+/// Tuples of one width, in the order in which they came. They stand one behind another in one list, and beside it
+/// the numbers of the rows in ascending order of the rows, where rows that agree on their first places are neighbours.
 #[derive(Debug, Drop)]
 pub struct Rows {
     domain: Domain,
     width: u32,
     len: u32,
     values: Values,
+    order: Vec<u32>,
 }
 
 impl Model for Rows {
-    ghost use Rattle.pol_rows.specs.RowLists.{RowsView, rows_in, IsFlat};
+    ghost use Rattle.pol_rows.specs.RowLists.{RowsView, rows_in};
+    ghost use Rattle.pol_rows.specs.RowOrders.{AreStored};
 
     ghost Value = { RowsView };
 
     ghost view = { λ r. rows_in r.domain r.width r.len r.values };
 
-    ghost invariant = { λ r. IsFlat r.domain r.width r.len r.values };
+    ghost invariant = { λ r. AreStored r.domain r.width r.len r.values r.order.items };
 }
 
 impl Rows {
@@ -41,6 +45,7 @@ impl Rows {
             width: n,
             len: 0,
             values: Values::new(alloc),
+            order: Vec::new(alloc),
         }
     }
 
@@ -52,9 +57,36 @@ impl Rows {
             domain = self.old.domain; width = self.old.width; rows = self.old.rows ++ row.now ∷ [] }) }
         ensures err { OnErr result (self.new ≡ self.old) }
     {
+        let place = self.place_for(&self.order, row);
+        self.order.reserve(1)?;
         self.values.append(row)?;
+        // there is room
+        self.order.insert(place, self.len).unwrap();
         self.len += 1;
         Ok(())
+    }
+
+    /// The place of the row among numbers of rows that ascend, behind those of equal rows.
+    fn place_for(&self, numbers: &[u32], row: &[u8]) -> usize
+        requires tuple { IsTuple self.now.domain self.now.width row.now }
+        requires ascending { AreAscending self.now.domain self.now.rows numbers.now }
+        ensures within { result ≤ length numbers.now }
+        ensures before { (k : ℕ) → k < result
+            → cell_of self.now.domain (row_of self.now.rows (slice_index numbers.now k)) ≤ cell_of self.now.domain row.now }
+        ensures behind { (k : ℕ) → result ≤ k → k < length numbers.now
+            → cell_of self.now.domain row.now ≤ cell_of self.now.domain (row_of self.now.rows (slice_index numbers.now k)) }
+    {
+        let mut low = 0;
+        let mut high = numbers.len();
+        while low < high {
+            let middle = low + (high - low) / 2;
+            if row.cmp(self.row(numbers[middle])).is_lt() {
+                high = middle;
+            } else {
+                low = middle + 1;
+            }
+        }
+        low
     }
 
     pub fn domain(&self) -> Domain

@@ -6,4 +6,4 @@ pub returns-clause-rows : goal.returns-clause-rows
 returns-clause-rows c = rw (← c.self.view_is) (sym (length-tuples_in _ _ _))
 
 pub returns-clause-few : goal.returns-clause-few
-returns-clause-few c = rw (← c.self.view_is) (rows_of_flat _ _ _ _ c.self.invariant)
+returns-clause-few c = rw (← c.self.view_is) (rows_of_flat _ _ _ _ c.self.invariant.flat)

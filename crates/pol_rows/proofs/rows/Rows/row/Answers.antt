@@ -8,7 +8,7 @@ slice_bounds-result-end c =
     let known = rw (← c.self.view_is) at c.requires.known in
     let below : c.args.i < c.self.inside.len = omega (arith, known, length-tuples_in c.self.inside.width c.self.inside.len c.self.inside.values) in
     let ends = row_ends c.self.inside.width c.self.inside.len c.args.i below in
-    omega (arith, ends, c.self.invariant.long, ap length c.as_slice.ensures.items)
+    omega (arith, ends, c.self.invariant.flat.long, ap length c.as_slice.ensures.items)
 
 pub returns-clause-row : goal.returns-clause-row
 returns-clause-row c =
