@@ -2,5 +2,7 @@
 #![tactic(auto)]
 
 mod rows;
+mod runs;
+mod signature;
 
 pub use rows::Rows;

@@ -2,7 +2,7 @@ ghost use Rattle.std.specs.Prelude.{◌≡◌, ℕ, ◌<◌, ◌≤◌, [], ◌�
 ghost use Rattle.pol_base.specs.Tuples.{IsTuple, cell_of};
 ghost use Rattle.pol_optable.specs.Operations.{image};
 ghost use Rattle.pol_rows.specs.RowLists.{RowsView, IsRows, row_of};
-ghost use Rattle.pol_rows.specs.RowOrders.{AreAscending};
+ghost use Rattle.pol_rows.specs.RowOrders.{AreAscending, IsOrder};
 
 use pol_base::{Domain, NoMemory, Values};
 use pol_optable::OpTable;
@@ -64,6 +64,14 @@ impl Rows {
         self.order.insert(place, self.len).unwrap();
         self.len += 1;
         Ok(())
+    }
+
+    /// The numbers of the rows in ascending order of the rows.
+    pub(crate) fn order(&self) -> &[u32]
+        ensures order { IsOrder self.now.domain self.now.rows result.now }
+        ensures rows { IsRows self.now }
+    {
+        self.order.as_slice()
     }
 
     /// The place of the row among numbers of rows that ascend, behind those of equal rows.
