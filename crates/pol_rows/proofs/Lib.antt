@@ -2,3 +2,4 @@ pub mod FlatLemmas
 pub mod OrderLemmas
 pub mod RunLemmas
 pub mod PairLemmas
+pub mod SizeLemmas

@@ -1,14 +1,15 @@
 -- Pairs of rows that agree before a place, gathered run by run.
-use Rattle.std.proofs.Common.{◌≡◌, ℕ, ◌+◌, ◌<◌, ◌≤◌, ◌⊎◌, ◌↔◌, inl, inr, Option, Some, None, List, [], ◌∷◌, ◌++◌, ◌∙◌, length, get_or, take, drop, All, Contains, append_assoc, append-nil, sym, ap, refl, subst, arith}
+use Rattle.std.proofs.Common.{◌≡◌, ℕ, zero, suc, ◌+◌, ◌<◌, ◌≤◌, ◌⊎◌, ◌↔◌, inl, inr, Option, Some, None, List, [], ◌∷◌, ◌++◌, ◌∙◌, length, get_or, take, drop, All, Contains, append_assoc, append-nil, sym, ap, refl, subst, arith}
 use Rattle.std.specs.Prelude.{slice_index, IsBitSet, bit_or, IfSome, IsNone}
 use Rattle.std.proofs.lemmas.Bool.{cases_lt}
-use Rattle.std.proofs.lemmas.List.{take-append-drop, get_or_default}
+use Rattle.std.proofs.Math.ListN.{set}
+use Rattle.std.proofs.lemmas.List.{take-append-drop, get_or_default, get_or-set_same, get_or-set_other, set-get_or, length-set}
 use Rattle.std.proofs.lemmas.List.Elements.{All-contains, All-drop, Contains-append_left, Contains-append_right, Contains-append_cases, Contains-get_or}
 use Rattle.std.proofs.lemmas.List.Sorted.{IsNonDecreasingBy-drop}
 use Rattle.pol_base.specs.Tuples.{cell_of}
 use Rattle.pol_base.proofs.MemberLemmas.{Contains-nil}
 use Rattle.pol_optable.proofs.SetLemmas.{or_set}
-use Rattle.pol_base.proofs.BitLemmas.{set_or_left, set_or_right}
+use Rattle.pol_base.proofs.BitLemmas.{set_or_left, set_or_right, set_pos}
 use Rattle.pol_rows.specs.RowLists.{row_of, IsShownBy, IsNotBehind, IsLeastPair}
 use Rattle.pol_rows.specs.RowOrders.{AreAscending, IsOrder}
 use Rattle.pol_rows.specs.Signatures.{InSignature}
@@ -253,3 +254,143 @@ least_ends d rows i a b order rest least is far ends = by least far.least_is
       };
       none = (λ e. absurd (cc), λ absent. absurd (absent (in_signature-shown rows i a b found.0 found.1 (whole found.0 found.1 pair.holds))));
     }
+
+-- ---- the values that follow
+
+-- the masks of what was walked
+pub record FollowsSoFar (d : ℕ) (rows : List (List ℕ)) (i : ℕ) (order rest masks : List ℕ) : Type 0 where
+  pub done : List ℕ
+  pub walk : IsWalk d rows i order done rest
+  pub followers : (a b : ℕ) → a < 5 → IsBitSet (slice_index masks a) b ↔ HasPairAmong rows done i a b
+
+pub follows_begins :
+    (d : ℕ) (rows : List (List ℕ)) (i : ℕ) (order masks : List ℕ)
+    → AreAscending d rows order
+    → ((a b : ℕ) → a < 5 → IsBitSet (slice_index masks a) b → ⊥)
+    → FollowsSoFar d rows i order order masks
+follows_begins d rows i order masks are none = record {
+  done = [];
+  walk = walk_begins d rows i order are;
+  followers = λ a b low. (λ set. absurd (none a b low set), λ some. absurd (Contains-nil some.one some.pair.first.listed));
+}
+
+pub follows_more :
+    (d : ℕ) (rows : List (List ℕ)) (i count values : ℕ) (order rest masks more : List ℕ)
+    → FollowsSoFar d rows i order rest masks
+    → IsRun rows rest i count
+    → ((v : ℕ) → IsBitSet values v ↔ SomeHasAt rows (take count rest) i v)
+    → ((a b : ℕ) → a < 5 → IsBitSet (slice_index more a) b ↔ (IsBitSet (slice_index masks a) b ⊎ (IsBitSet values a × IsBitSet values b)))
+    → FollowsSoFar d rows i order (drop count rest) more
+follows_more d rows i count values order rest masks more far run at each = record {
+  done = far.done ++ take count rest;
+  walk = walk_more d rows i count order far.done rest far.walk run;
+  followers = λ a b low. (λ set. there a b low ((each a b low).0 set), λ some. (each a b low).1 (back a b low some));
+}
+  where
+    there : (a b : ℕ) → a < 5 → IsBitSet (slice_index masks a) b ⊎ (IsBitSet values a × IsBitSet values b) → HasPairAmong rows (far.done ++ take count rest) i a b
+    there a b low (inl old) =
+        let some = (far.followers a b low).0 old in
+        record { one = some.one; other = some.other; pair = pair_left rows far.done (take count rest) i a b some.one some.other some.pair }
+    there a b low (inr new) =
+        let first = (at a).0 new.0 in
+        let second = (at b).0 new.1 in
+        record {
+          one = first.number;
+          other = second.number;
+          pair = pair_right rows far.done (take count rest) i a b first.number second.number
+              (record { first = first.has; second = second.has; agree = run.agree first.number second.number first.has.listed second.has.listed });
+        }
+
+    back : (a b : ℕ) → a < 5 → HasPairAmong rows (far.done ++ take count rest) i a b → IsBitSet (slice_index masks a) b ⊎ (IsBitSet values a × IsBitSet values b)
+    back a b low some = elim (pair_cases d rows i a b count some.one some.other order far.done rest far.walk some.pair) [
+      | inl old ↦ inl ((far.followers a b low).1 (record { one = some.one; other = some.other; pair = old }))
+      | inr new ↦ inr ((at a).1 (record { number = some.one; has = new.first }), (at b).1 (record { number = some.other; has = new.second }))
+    ]
+
+pub follows_ends :
+    (d : ℕ) (rows : List (List ℕ)) (i : ℕ) (order rest masks : List ℕ)
+    → IsOrder d rows order
+    → FollowsSoFar d rows i order rest masks
+    → length rest ≡ 0
+    → (a b : ℕ) → a < 5 → IsBitSet (slice_index masks a) b ↔ InSignature (Contains rows) i a b
+follows_ends d rows i order rest masks is far ends a b low = (
+  λ set.
+      let some = (far.followers a b low).0 set in
+      in_signature-shown rows i a b some.one some.other (shown_of_pair d rows order i a b some.one some.other is
+          (subst (λ numbers. IsPairAmong rows numbers i a b some.one some.other) (sym same) some.pair)),
+  λ triple.
+      let shown = shown-in_signature rows i a b triple in
+      (far.followers a b low).1 (record {
+        one = shown.0;
+        other = shown.1;
+        pair = subst (λ numbers. IsPairAmong rows numbers i a b shown.0 shown.1) same (pair_of_shown d rows order i a b shown.0 shown.1 is shown.2);
+      }),
+)
+  where
+    same : order ≡ far.done
+    same = walk_ends order far.done rest ends far.walk.all
+
+-- the masks below k are joined with the values where they are of one of these, and the others are as they were
+pub record AreJoined (values k : ℕ) (old new : List ℕ) : Type 0 where
+  pub long : length new ≡ 5
+  pub joined : (a b : ℕ) → a < k → IsBitSet (slice_index new a) b ↔ (IsBitSet (slice_index old a) b ⊎ (IsBitSet values a × IsBitSet values b))
+  pub left : (a : ℕ) → k ≤ a → slice_index new a ≡ slice_index old a
+
+pub joined_begins : (values : ℕ) (old : List ℕ) → length old ≡ 5 → AreJoined values 0 old old
+joined_begins values old long = record { long = long; joined = λ a b low. absurd (omega arith); left = λ a from. refl }
+
+pub joined_more :
+    (values k : ℕ) (old new : List ℕ)
+    → AreJoined values k old new
+    → k < 5
+    → IsBitSet values k
+    → AreJoined values (k + 1) old (set new k (bit_or (slice_index new k) values))
+joined_more values k old new are low has = record {
+  long = length-set new k (bit_or (slice_index new k) values) ∙ are.long;
+  joined = λ a b below. by a b below (cases_lt a k);
+  left = λ a from. get_or-set_other new k a (bit_or (slice_index new k) values) 0 (λ same. omega (arith, same, from)) ∙ are.left a (omega arith);
+}
+  where
+    here : slice_index (set new k (bit_or (slice_index new k) values)) k ≡ bit_or (slice_index new k) values
+    here = get_or-set_same new k (bit_or (slice_index new k) values) 0 (omega (arith, low, are.long))
+
+    at_k : (b : ℕ) → IsBitSet (bit_or (slice_index old k) values) b ↔ (IsBitSet (slice_index old k) b ⊎ (IsBitSet values k × IsBitSet values b))
+    at_k b = (
+      λ set. elim ((or_set (slice_index old k) values b).0 set) [ inl before ↦ inl before | inr new ↦ inr (has, new) ],
+      λ either. elim either [ inl before ↦ set_or_left (slice_index old k) values b before | inr new ↦ set_or_right (slice_index old k) values b new.1 ],
+    )
+
+    by : (a b : ℕ) → a < k + 1 → (a < k) ⊎ (k ≤ a)
+        → IsBitSet (slice_index (set new k (bit_or (slice_index new k) values)) a) b ↔ (IsBitSet (slice_index old a) b ⊎ (IsBitSet values a × IsBitSet values b))
+    by a b below (inl less) = rw (get_or-set_other new k a (bit_or (slice_index new k) values) 0 (λ same. omega (arith, same, less))) (are.joined a b less)
+    by a b below (inr above) =
+        let same : a ≡ k = omega arith in
+        rw (same, here, are.left k (omega arith)) (at_k b)
+
+pub joined_same : (values k : ℕ) (old new : List ℕ) → AreJoined values k old new → (IsBitSet values k → ⊥) → AreJoined values (k + 1) old (set new k (slice_index new k))
+joined_same values k old new are clear = rw (set-get_or new k 0) (record {
+  long = are.long;
+  joined = λ a b below. by a b below (cases_lt a k);
+  left = λ a from. are.left a (omega arith);
+})
+  where
+    at_k : (b : ℕ) → IsBitSet (slice_index old k) b ↔ (IsBitSet (slice_index old k) b ⊎ (IsBitSet values k × IsBitSet values b))
+    at_k b = (λ set. inl set, λ either. elim either [ inl before ↦ before | inr new ↦ absurd (clear new.0) ])
+
+    by : (a b : ℕ) → a < k + 1 → (a < k) ⊎ (k ≤ a) → IsBitSet (slice_index new a) b ↔ (IsBitSet (slice_index old a) b ⊎ (IsBitSet values a × IsBitSet values b))
+    by a b below (inl less) = are.joined a b less
+    by a b below (inr above) =
+        let same : a ≡ k = omega arith in
+        rw (same, are.left k (omega arith)) (at_k b)
+
+-- no value follows another at first
+no_mask : (a : ℕ) → slice_index (0 ∷ 0 ∷ 0 ∷ 0 ∷ 0 ∷ []) a ≡ 0
+no_mask zero = refl
+no_mask (suc zero) = refl
+no_mask (suc (suc zero)) = refl
+no_mask (suc (suc (suc zero))) = refl
+no_mask (suc (suc (suc (suc zero)))) = refl
+no_mask (suc (suc (suc (suc (suc a))))) = refl
+
+pub none_follows : (a b : ℕ) → IsBitSet (slice_index (0 ∷ 0 ∷ 0 ∷ 0 ∷ 0 ∷ []) a) b → ⊥
+none_follows a b follows = let some = set_pos 0 b (rw (no_mask a) at follows) in omega (arith, some)

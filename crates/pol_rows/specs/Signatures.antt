@@ -16,9 +16,13 @@ abbrev pub sum_below : ℕ → (ℕ → ℕ) → ℕ
 sum_below zero term = 0
 sum_below (suc n) term = sum_below n term + term n
 
--- how many triples of a place below n and two values below d pass the test
+-- how many pairs of values below d pass the test
+abbrev pub count_pairs : ℕ → (ℕ → ℕ → Bool) → ℕ
+count_pairs d test = sum_below d (λ a. sum_below d (λ b. cond (test a b) 1 0))
+
+-- how many triples of a place below n and two values below d pass it
 abbrev pub count_triples : ℕ → ℕ → (ℕ → ℕ → ℕ → Bool) → ℕ
-count_triples n d test = sum_below n (λ i. sum_below d (λ a. sum_below d (λ b. cond (test i a b) 1 0)))
+count_triples n d test = sum_below n (λ i. count_pairs d (test i))
 
 -- the signature of a set of n-tuples below d has so many triples: so many pass a test that decides which it has
 pub record IsSignatureSize (n d : ℕ) (T : List ℕ → Type 0) (size : ℕ) : Type 0 where
