@@ -3,3 +3,4 @@ pub mod OrderLemmas
 pub mod RunLemmas
 pub mod PairLemmas
 pub mod SizeLemmas
+pub mod TripleLemmas

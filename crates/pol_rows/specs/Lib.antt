@@ -3,3 +3,4 @@ pub mod RowLists
 pub mod RowOrders
 pub mod Runs
 pub mod Counts
+pub mod Laws
