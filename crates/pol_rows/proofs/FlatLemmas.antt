@@ -1,12 +1,12 @@
 -- Rows that stand one behind another in a list of values.
-use Rattle.std.proofs.Common.{◌≡◌, ℕ, zero, suc, ◌+◌, ◌*◌, ◌<◌, ◌≤◌, List, [], ◌∷◌, ◌++◌, ◌∙◌, length, length-append, get_or, take, drop, All, ap, sym, refl, arith}
+use Rattle.std.proofs.Common.{◌≡◌, ℕ, zero, suc, ◌+◌, ◌*◌, ◌<◌, ◌≤◌, List, [], ◌∷◌, ◌++◌, ◌∙◌, length, length-append, get_or, take, drop, All, ap, refl, arith}
 use Rattle.std.proofs.Math.Nat.{mul-le-mul_right}
 use Rattle.std.proofs.Math.Seq.{take-length}
 use Rattle.std.proofs.lemmas.List.{drop-drop, length-drop, length-take-le, take-append-le, drop-append-le}
 use Rattle.std.proofs.lemmas.List.Elements.{All-nil, All-cons, All-take, All-drop, All-append}
 use Rattle.pol_base.specs.Tuples.{IsTuple}
 use Rattle.pol_relation.specs.Relations.{tuples_in}
-use Rattle.pol_rows.specs.RowLists.{RowsView, IsRows, IsFlat, rows_in}
+use Rattle.pol_rows.specs.RowLists.{IsRows, IsFlat, rows_in}
 
 pub length-tuples_in : (n count : ℕ) (values : List ℕ) → length (tuples_in n count values) ≡ count
 length-tuples_in n zero values = refl

@@ -1,5 +1,5 @@
 -- Numbers of rows in ascending order of the rows.
-use Rattle.std.proofs.Common.{◌≡◌, ℕ, ◌+◌, ◌<◌, ◌≤◌, ◌⊎◌, ◌↔◌, inl, inr, Bool, true, false, List, [], ◌∷◌, ◌++◌, ◌∙◌, length, length-append, get_or, All, Contains, IsTrue, sym, ap, refl, subst, arith}
+use Rattle.std.proofs.Common.{◌≡◌, ℕ, ◌+◌, ◌<◌, ◌≤◌, ◌⊎◌, inl, inr, Bool, true, false, List, [], ◌∷◌, ◌++◌, length, length-append, get_or, Contains, ap, subst, arith}
 use Rattle.std.specs.List.{insert}
 use Rattle.std.specs.List.Sorted.{IsNonDecreasingBy, IsPermutation}
 use Rattle.std.specs.Cmp.Lexicographic.{slice_cmp}
@@ -9,10 +9,10 @@ use Rattle.std.proofs.lemmas.List.{get_or_default, get_or_push, get_or_append_le
 use Rattle.std.proofs.lemmas.List.Edits.{length-insert}
 use Rattle.std.proofs.lemmas.List.Elements.{All-cons}
 use Rattle.std.proofs.lemmas.List.Sorted.{IsPermutation-insert, IsNonDecreasingBy-insert, All-permutation, Contains-permutation}
-use Rattle.pol_base.specs.Tuples.{IsTuple, IsBefore, cell_of}
+use Rattle.pol_base.specs.Tuples.{IsTuple, cell_of}
 use Rattle.pol_base.proofs.MemberLemmas.{Contains-here, Contains-there}
 use Rattle.pol_base.proofs.CellLemmas.{cell_of-before}
-use Rattle.pol_base.proofs.OrderLemmas.{Order, Before, Same, After, order_of, slice_cmp-before, slice_cmp-same, slice_cmp-after}
+use Rattle.pol_base.proofs.OrderLemmas.{Before, Same, After, order_of, slice_cmp-before, slice_cmp-same, slice_cmp-after}
 use Rattle.pol_rows.specs.RowLists.{row_of}
 use Rattle.pol_rows.specs.RowOrders.{AreAscending, IsOrder}
 

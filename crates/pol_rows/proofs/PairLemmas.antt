@@ -1,5 +1,5 @@
 -- Pairs of rows that agree before a place, gathered run by run.
-use Rattle.std.proofs.Common.{◌≡◌, ℕ, zero, suc, ◌+◌, ◌<◌, ◌≤◌, ◌⊎◌, ◌↔◌, inl, inr, Option, Some, None, List, [], ◌∷◌, ◌++◌, ◌∙◌, length, get_or, take, drop, All, Contains, append_assoc, append-nil, sym, ap, refl, subst, arith}
+use Rattle.std.proofs.Common.{◌≡◌, ℕ, zero, suc, ◌+◌, ◌<◌, ◌≤◌, ◌⊎◌, ◌↔◌, inl, inr, Option, Some, None, List, [], ◌∷◌, ◌++◌, ◌∙◌, length, take, drop, Contains, append_assoc, append-nil, sym, ap, refl, subst, arith}
 use Rattle.std.specs.Prelude.{slice_index, IsBitSet, bit_or, IfSome, IsNone}
 use Rattle.std.proofs.lemmas.Bool.{cases_lt}
 use Rattle.std.proofs.Math.ListN.{set}
@@ -13,7 +13,7 @@ use Rattle.pol_base.proofs.BitLemmas.{set_or_left, set_or_right, set_pos}
 use Rattle.pol_rows.specs.RowLists.{row_of, IsShownBy, IsNotBehind, IsLeastPair}
 use Rattle.pol_rows.specs.RowOrders.{AreAscending, IsOrder}
 use Rattle.pol_rows.specs.Signatures.{InSignature}
-use Rattle.pol_rows.specs.Runs.{HasAt, SomeHasAt, IsLeastNumber, AnswersLeastNumber, Agree, IsRun, IsPairAmong, HasPairAmong, IsLeastOf, AnswersLeastPair}
+use Rattle.pol_rows.specs.Runs.{HasAt, SomeHasAt, IsLeastNumber, Agree, IsRun, IsPairAmong, HasPairAmong, AnswersLeastPair}
 
 -- ---- what was walked, and what is left
 
@@ -211,14 +211,17 @@ in_signature-shown rows i a b p q shown = record {
 pub shown-in_signature : (rows : List (List ℕ)) (i a b : ℕ) → InSignature (Contains rows) i a b → (p : ℕ) × (q : ℕ) × IsShownBy rows i a b p q
 shown-in_signature rows i a b triple =
     let one : row_of rows triple.one_in.0 ≡ triple.one = get_or_default rows triple.one_in.0 [] triple.one triple.one_in.1 ∙ triple.one_in.2 in
-    let other : row_of rows triple.other_in.0 ≡ triple.other = get_or_default rows triple.other_in.0 [] triple.other triple.other_in.1 ∙ triple.other_in.2 in
-    (triple.one_in.0, triple.other_in.0, record {
-      first_known = triple.one_in.1;
-      second_known = triple.other_in.1;
-      same_before = rw (one, other) triple.same_before;
-      first_at = rw one triple.one_at;
-      second_at = rw other triple.other_at;
-    })
+    let other : row_of rows triple.other_in.0 ≡ triple.other = get_or_default rows triple.other_in.0 [] triple.other triple.other_in.1 ∙ triple.other_in.2 in (
+      triple.one_in.0,
+      triple.other_in.0,
+      record {
+        first_known = triple.one_in.1;
+        second_known = triple.other_in.1;
+        same_before = rw (one, other) triple.same_before;
+        first_at = rw one triple.one_at;
+        second_at = rw other triple.other_at;
+      },
+    )
 
 -- what the answer tells
 pub record TellsPair (rows : List (List ℕ)) (i a b : ℕ) (answer : Option (ℕ × ℕ)) : Type 0 where
@@ -317,7 +320,7 @@ follows_ends d rows i order rest masks is far ends a b low = (
   λ set.
       let some = (far.followers a b low).0 set in
       in_signature-shown rows i a b some.one some.other (shown_of_pair d rows order i a b some.one some.other is
-          (subst (λ numbers. IsPairAmong rows numbers i a b some.one some.other) (sym same) some.pair)),
+      (subst (λ numbers. IsPairAmong rows numbers i a b some.one some.other) (sym same) some.pair)),
   λ triple.
       let shown = shown-in_signature rows i a b triple in
       (far.followers a b low).1 (record {

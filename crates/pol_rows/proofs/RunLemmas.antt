@@ -1,17 +1,16 @@
 -- Runs of rows that agree before a place, and what stands at the place in their rows.
-use Rattle.std.proofs.Common.{◌≡◌, ◌≢◌, ℕ, zero, suc, ◌+◌, ◌<◌, ◌≤◌, ◌⊎◌, ◌↔◌, inl, inr, Option, Some, None, List, [], ◌∷◌, ◌++◌, ◌∙◌, length, get_or, take, drop, All, Contains, sym, ap, refl, subst, arith}
+use Rattle.std.proofs.Common.{◌≡◌, ◌≢◌, ℕ, zero, suc, ◌+◌, ◌<◌, ◌≤◌, ◌⊎◌, ◌↔◌, inl, inr, Option, Some, None, List, [], ◌∷◌, ◌++◌, ◌∙◌, length, get_or, take, drop, All, Contains, sym, refl, arith}
 use Rattle.std.specs.Prelude.{slice_index, IsBitSet, bit_or, IfSome, ◌^◌}
 use Rattle.std.proofs.lemmas.Bool.{cases_order, cases_lt}
-use Rattle.std.proofs.lemmas.List.{get_or_default, get_or-take, get_or-drop, length-take-le, length-drop, take_more}
-use Rattle.std.proofs.lemmas.List.Elements.{All-contains, Contains-push, Contains-push_cases, Contains-append_left}
+use Rattle.std.proofs.lemmas.List.{get_or_default, get_or-take, get_or-drop, length-take-le, length-drop}
+use Rattle.std.proofs.lemmas.List.Elements.{Contains-push, Contains-push_cases, Contains-append_left}
 use Rattle.pol_base.specs.Tuples.{IsTuple, IsBefore, cell_of}
-use Rattle.pol_base.proofs.MemberLemmas.{Contains-nil}
 use Rattle.pol_base.proofs.CellLemmas.{cell_of-before}
 use Rattle.pol_base.proofs.BitLemmas.{set_or_left, set_or_right, set_single, single_set}
 use Rattle.pol_optable.proofs.SetLemmas.{or_set}
 use Rattle.pol_rows.specs.RowLists.{row_of}
 use Rattle.pol_rows.specs.RowOrders.{AreAscending}
-use Rattle.pol_rows.specs.Runs.{HasAt, SomeHasAt, IsLeastNumber, AnswersLeastNumber, Agree, IsRun}
+use Rattle.pol_rows.specs.Runs.{HasAt, SomeHasAt, AnswersLeastNumber, Agree, IsRun}
 
 -- ---- rows between two that agree before a place
 
@@ -136,11 +135,11 @@ run_ends d n rows numbers i count tuples are run next = record {
         let early : one.place < length numbers = omega (arith, one.below, run.within) in
         let agree : Agree rows i (get_or numbers one.place 0) (get_or numbers other.place 0) = rw (one.number, other.number) same in
         next inside (front_between d n i (row_of rows (get_or numbers one.place 0)) (row_of rows (get_or numbers count 0)) (row_of rows (get_or numbers other.place 0))
-            (tuple one.place early) (tuple count inside) (tuple other.place other.below)
-            (are.ascending one.place count 0 (omega (arith, one.below)) inside)
-            (are.ascending count other.place 0 other.from other.below)
-            agree
-            ∙ run.same one.place one.below)
+        (tuple one.place early) (tuple count inside) (tuple other.place other.below)
+        (are.ascending one.place count 0 (omega (arith, one.below)) inside)
+        (are.ascending count other.place 0 other.from other.below)
+        agree
+        ∙ run.same one.place one.below)
 
 -- ---- what stands at a place
 

@@ -1,5 +1,5 @@
 -- Sizes of signatures: by a test that computes, one number, and at most n d d.
-use Rattle.std.proofs.Common.{◌≡◌, ℕ, zero, suc, ◌+◌, ◌*◌, ◌<◌, ◌≤◌, ◌↔◌, ◌&&◌, Bool, true, false, cond, eqb, List, [], Contains, take, length, get_or, sym, ◌∙◌, ap, refl, add-one, arith}
+use Rattle.std.proofs.Common.{◌≡◌, ℕ, zero, suc, ◌+◌, ◌*◌, ◌<◌, ◌≤◌, ◌↔◌, ◌&&◌, Bool, true, false, cond, eqb, List, Contains, take, length, get_or, ◌∙◌, ap, refl, add-one, arith}
 use Rattle.std.specs.Prelude.{slice_index, Decides, bytes_eq, Any, IsBitSet}
 use Rattle.std.specs.List.{list_any}
 use Rattle.std.specs.Int.{bit_at}
@@ -70,7 +70,7 @@ pub pairs_of_masks :
     → sum_below d (λ a. sum_below d (λ b. bit_at (slice_index masks a) b)) ≡ count_pairs d (in_signature rows i)
 pairs_of_masks d i rows masks few followers =
     sum_below-same d _ _ (λ a low. sum_below-same d _ _ (λ b _.
-        bit_of_test (slice_index masks a) b (in_signature rows i a b) (InSignature (Contains rows) i a b) (in_signature-Decides rows i a b) (followers a b (omega (arith, few)))))
+    bit_of_test (slice_index masks a) b (in_signature rows i a b) (InSignature (Contains rows) i a b) (in_signature-Decides rows i a b) (followers a b (omega (arith, few)))))
 
 -- a bit that is set counts once, and one that is not counts nothing
 pub bit_counts : (mask b : ℕ) → IsBitSet mask b → bit_at mask b ≡ 1
@@ -156,7 +156,7 @@ pairs_counted d i rows masks count size places few long is_size all counted foll
     counted
     ∙ ap (λ places. sum_below places (λ a. sum_below d (λ b. bit_at (get_or (take size masks) a 0) b))) every
     ∙ sum_below-same d (λ a. sum_below d (λ b. bit_at (get_or (take size masks) a 0) b)) (λ a. sum_below d (λ b. bit_at (slice_index masks a) b))
-        (λ a low. ap (λ mask. sum_below d (λ b. bit_at mask b)) (get_or-take size masks a 0 (omega (arith, is_size, low))))
+    (λ a low. ap (λ mask. sum_below d (λ b. bit_at mask b)) (get_or-take size masks a 0 (omega (arith, is_size, low))))
     ∙ pairs_of_masks d i rows masks few followers
 
 pub size_counted :

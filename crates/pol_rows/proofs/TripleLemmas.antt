@@ -1,12 +1,12 @@
 -- Triples that pass a test, listed each once, are as many as are counted.
-use Rattle.std.proofs.Common.{◌≡◌, ◌≢◌, ℕ, zero, suc, ◌+◌, ◌<◌, ◌≤◌, ◌⊎◌, ◌↔◌, inl, inr, Bool, true, false, cond, List, [], ◌∷◌, ◌++◌, ◌∙◌, length, length-append, All, AllPairs, Contains, get_or, sym, refl, subst, arith}
+use Rattle.std.proofs.Common.{◌≡◌, ◌≢◌, ℕ, zero, suc, ◌+◌, ◌<◌, ◌≤◌, ◌⊎◌, inl, inr, Bool, true, false, cond, List, [], ◌∷◌, ◌++◌, ◌∙◌, length, length-append, All, AllPairs, Contains, get_or, sym, refl, subst, arith}
 use Rattle.std.specs.Prelude.{slice_index}
 use Rattle.std.proofs.lemmas.Bool.{cases_lt, false≢true}
-use Rattle.std.proofs.lemmas.List.Elements.{All-nil, All-cons, All-append, All-head, All-tail, All-contains, Contains-append_left, Contains-append_right, Contains-append_cases}
+use Rattle.std.proofs.lemmas.List.Elements.{All-nil, All-cons, All-append, All-head, All-tail, All-contains, Contains-append_left, Contains-append_right}
 use Rattle.std.proofs.lemmas.List.Kept.{AllPairs-cons}
 use Rattle.pol_base.specs.Tuples.{IsTuple}
-use Rattle.pol_base.proofs.MemberLemmas.{AllPairs-nil, AllPairs-head, AllPairs-tail, Contains-here, Contains-nil, Contains-cons_cases, no_longer}
-use Rattle.pol_rows.specs.Signatures.{InSignature, sum_below, count_pairs, count_triples, IsSignatureSize}
+use Rattle.pol_base.proofs.MemberLemmas.{AllPairs-nil, AllPairs-head, AllPairs-tail, Contains-here, no_longer}
+use Rattle.pol_rows.specs.Signatures.{sum_below, count_pairs, count_triples, IsSignatureSize}
 use Rattle.pol_rows.specs.RowLists.{IsLeastPair}
 use Rattle.pol_rows.specs.Laws.{Triple, IsTripleOf, ListsSignature}
 
@@ -114,8 +114,8 @@ triples_listed : (n d : ℕ) (test : ℕ → ℕ → ℕ → Bool) → Enumerate
 triples_listed n d test =
     sum_listed n (λ i. count_pairs d (test i)) (λ i. Below d (λ a. Below d (Passes test i a)))
     (λ i. sum_listed d (λ a. sum_below d (λ b. cond (test i a b) 1 0)) (λ a. Below d (Passes test i a))
-        (λ a. sum_listed d (λ b. cond (test i a b) 1 0) (Passes test i a) (passing_listed test i a) (λ j k t one other. sym one.second ∙ other.second))
-        (λ j k t one other. sym one.holds.first ∙ other.holds.first))
+    (λ a. sum_listed d (λ b. cond (test i a b) 1 0) (Passes test i a) (passing_listed test i a) (λ j k t one other. sym one.second ∙ other.second))
+    (λ j k t one other. sym one.holds.first ∙ other.holds.first))
     (λ j k t one other. sym one.holds.holds.place ∙ other.holds.holds.place)
 
 -- a value of a row is below the domain
@@ -146,8 +146,19 @@ size_counts n d size rows triples tuples s lists =
     from t is =
         let first = value_below d n t.place t.first rows is.shown.one tuples is.shown.one_in is.placed is.shown.one_at in
         let second = value_below d n t.place t.second rows is.shown.other tuples is.shown.other_in is.placed is.shown.other_at in
-        record { number = t.place; below = is.placed; holds = record { number = t.first; below = first; holds = record { number = t.second; below = second;
-            holds = record { place = refl; first = refl; second = refl; passes = (s.decides t.place t.first t.second is.placed first second).1 is.shown } } } }
+        record {
+          number = t.place;
+          below = is.placed;
+          holds = record {
+            number = t.first;
+            below = first;
+            holds = record {
+              number = t.second;
+              below = second;
+              holds = record { place = refl; first = refl; second = refl; passes = (s.decides t.place t.first t.second is.placed first second).1 is.shown };
+            };
+          };
+        }
 
 pub least_pair_one : (rows : List (List ℕ)) (i a b p q j k : ℕ) → IsLeastPair rows i a b p q → IsLeastPair rows i a b j k → (p ≡ j) × (q ≡ k)
 least_pair_one rows i a b p q j k one other = by (one.least j k other.shown) (other.least p q one.shown)

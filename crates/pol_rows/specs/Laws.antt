@@ -1,5 +1,5 @@
 -- What the size of a signature and a least pair are to a reader who counts triples and tries pairs.
-use Rattle.std.specs.Prelude.{◌≡◌, ◌≢◌, ◌↔◌, ◌*◌, ◌<◌, ◌≤◌, ℕ, List, length, All, AllPairs, Contains}
+use Rattle.std.specs.Prelude.{◌≡◌, ◌≢◌, ◌↔◌, ◌<◌, ℕ, List, length, All, AllPairs, Contains}
 use Rattle.pol_base.specs.Tuples.{IsTuple}
 use Rattle.pol_rows.specs.Signatures.{InSignature, IsSignatureSize}
 use Rattle.pol_rows.specs.RowLists.{IsShownBy, IsLeastPair}

@@ -1,5 +1,5 @@
 -- Runs of rows that agree before a place, among rows in ascending order.
-use Rattle.std.specs.Prelude.{◌≡◌, ◌≢◌, ℕ, ◌<◌, ◌≤◌, List, length, take, drop, slice_index, Contains, Option, MatchOption}
+use Rattle.std.specs.Prelude.{◌≡◌, ℕ, ◌≤◌, List, length, take, drop, slice_index, Contains, Option, MatchOption}
 use Rattle.pol_rows.specs.RowLists.{row_of, IsNotBehind}
 
 -- the number is listed, and its row has the value at the place

@@ -9,8 +9,8 @@ use pol_optable::OpTable;
 use std::alloc::Global;
 use std::marker::Model;
 
-/// Tuples of one width, in the order in which they came. They stand one behind another in one list, and beside it
-/// the numbers of the rows in ascending order of the rows, where rows that agree on their first places are neighbours.
+/// Tuples of one width, in the order in which they came. Beside them stand their numbers in ascending order
+/// of the rows, where rows that agree on their first places are neighbours.
 #[derive(Debug, Drop)]
 pub struct Rows {
     domain: Domain,
@@ -49,12 +49,15 @@ impl Rows {
         }
     }
 
-    /// Adds a row behind the others.
+    /// Adds a row behind the others. Compares it with about log m of m rows, and moves at most m numbers.
     pub fn push(&mut self, row: &[u8]) -> Result<(), NoMemory>
         requires tuple { IsTuple self.old.domain self.old.width row.now }
         requires room { length self.old.rows < 1048576 }
         ensures ok { OnOk result (self.new ≡ record {
-            domain = self.old.domain; width = self.old.width; rows = self.old.rows ++ row.now ∷ [] }) }
+          domain = self.old.domain;
+          width = self.old.width;
+          rows = self.old.rows ++ row.now ∷ [];
+        }) }
         ensures err { OnErr result (self.new ≡ self.old) }
     {
         let place = self.place_for(&self.order, row);

@@ -43,7 +43,13 @@ impl Rows {
     }
 
     /// The least of the numbers whose row has `a` at place `i`, and the least whose row has `b` there.
-    pub(crate) fn least_with_each(&self, numbers: &[u32], i: u32, a: u8, b: u8) -> Option<(u32, u32)>
+    pub(crate) fn least_with_each(
+        &self,
+        numbers: &[u32],
+        i: u32,
+        a: u8,
+        b: u8,
+    ) -> Option<(u32, u32)>
         requires known { All (λ p. p < length self.now.rows) numbers.now }
         requires place { i < self.now.width }
         ensures least { AnswersLeastWith self.now.rows numbers.now i a b result }

@@ -10,7 +10,8 @@ use pol_base::{Domain, has_value};
 
 impl Rows {
     /// The least pair of numbers of rows that agree before place `i` and have `a` and `b` there. None exactly
-    /// where the triple is not in the signature of the rows. Takes no memory, and goes once over the rows.
+    /// where the triple is not in the signature of the rows. Takes no memory. Goes once over the rows, and
+    /// compares each with a neighbour before the place.
     pub fn pair_for(&self, i: u32, a: u8, b: u8) -> Option<(u32, u32)>
         requires place { i < self.now.width }
         ensures least { IfSome result (λ pair. IsLeastPair self.now.rows i a b pair.0 pair.1) }
@@ -28,8 +29,8 @@ impl Rows {
         least
     }
 
-    /// How many triples the signature of the rows has. Takes no memory, and goes once over the rows for each
-    /// place, where it compares neighbours before the place.
+    /// How many triples the signature of the rows has. Takes no memory. Goes once over the rows for each place,
+    /// and compares each with a neighbour before the place: linear in the rows, quadratic in the places.
     pub fn signature_size(&self) -> u32
         ensures size { IsSignatureSize self.now.width self.now.domain (Contains self.now.rows) result }
         ensures few { result ≤ self.now.width * (self.now.domain * self.now.domain) }

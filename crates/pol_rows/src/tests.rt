@@ -143,13 +143,7 @@ fn plain_pair(rows: &[[u8; 2]; 3], i: usize, a: u8, b: u8) -> Option<(u32, u32)>
     None
 }
 
-fn rows_of(
-    rt: &impl Abort,
-    alloc: Global,
-    d: u32,
-    n: u32,
-    tuples: &[&[u8]],
-) -> Result<Rows, Fail> {
+fn rows_of(rt: &impl Abort, alloc: Global, d: u32, n: u32, tuples: &[&[u8]]) -> Result<Rows, Fail> {
     let d = Domain::new(d).expect(rt, "a domain");
     assert!(rt; 1 <= n && n <= 4096);
     let mut rows = Rows::new(alloc, d, n);

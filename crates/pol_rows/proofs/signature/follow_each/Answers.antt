@@ -1,4 +1,4 @@
-use Rattle.std.proofs.Common.{arith, sym, ◌∙◌}
+use Rattle.std.proofs.Common.{sym, ◌∙◌}
 use Rattle.std.proofs.lemmas.Bool.{true≢false}
 use Rattle.pol_rows.proofs.PairLemmas.{joined_more, joined_same}
 use Rattle.pol_rows.proofs.signature.follow_each.Goals as goal

@@ -1,4 +1,4 @@
-use Rattle.std.proofs.Common.{arith, sym}
+use Rattle.std.proofs.Common.{arith}
 use Rattle.std.proofs.lemmas.List.{take_more}
 use Rattle.pol_rows.proofs.RunLemmas.{least_here, least_other}
 use Rattle.pol_rows.proofs.rows.Rows.least_with.Goals as goal

@@ -6,7 +6,7 @@ pub loop-rest-preserved-in-Some : goal.loop-rest-preserved-in-Some
 loop-rest-preserved-in-Some c =
     let found = rw c.split_at.ensures.front at c.in-Some.ensures.least in
     rw c.split_at.ensures.back (least_more _ _ _ _ _ _ _ _ _ _ _ _ c.loop-rest.invariant c.run_len.ensures.run found.0 found.1
-        c.lesser_pair.ensures.pair c.lesser_pair.ensures.least c.lesser_pair.ensures.one)
+    c.lesser_pair.ensures.pair c.lesser_pair.ensures.least c.lesser_pair.ensures.one)
 
 pub loop-rest-preserved : goal.loop-rest-preserved
 loop-rest-preserved c =

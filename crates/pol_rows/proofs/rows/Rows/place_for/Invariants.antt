@@ -1,6 +1,4 @@
-use Rattle.std.proofs.Common.{◌≡◌, ℕ, ◌-◌, ◌<◌, ◌≤◌, get_or, length}
-use Rattle.pol_base.specs.Tuples.{cell_of}
-use Rattle.pol_rows.specs.RowLists.{row_of}
+use Rattle.std.proofs.Common.{◌-◌}
 use Rattle.pol_rows.proofs.OrderLemmas.{IsSearch}
 use Rattle.pol_rows.proofs.rows.Rows.place_for.Given as goal
 

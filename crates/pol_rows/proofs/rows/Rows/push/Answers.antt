@@ -1,4 +1,4 @@
-use Rattle.std.proofs.Common.{◌≡◌, ◌+◌, ◌<◌, arith, add-one, sym}
+use Rattle.std.proofs.Common.{◌<◌, arith, add-one}
 use Rattle.pol_relation.specs.Relations.{tuples_in}
 use Rattle.pol_rows.proofs.FlatLemmas.{flat_more, tuples_in-push, length-tuples_in}
 use Rattle.pol_rows.proofs.OrderLemmas.{IsPlaceFor, order_more}

@@ -1,4 +1,4 @@
-use Rattle.std.proofs.Common.{◌≡◌, ◌+◌, ◌-◌, ◌*◌, ◌<◌, arith, length, take, drop, get_or, [], sym, ap, ◌∙◌}
+use Rattle.std.proofs.Common.{◌≡◌, ◌+◌, ◌-◌, ◌*◌, ◌<◌, arith, length, take, drop, get_or, [], sym, ap}
 use Rattle.pol_relation.specs.Relations.{tuples_in}
 use Rattle.pol_rows.proofs.FlatLemmas.{row_ends, get-tuples_in, length-tuples_in}
 use Rattle.pol_rows.proofs.rows.Rows.row.Goals as goal

@@ -1,4 +1,4 @@
-use Rattle.std.proofs.Common.{◌≡◌, arith, subst, sym, ap, ◌∙◌}
+use Rattle.std.proofs.Common.{◌≡◌, arith}
 use Rattle.pol_rows.proofs.SizeLemmas.{size_counted}
 use Rattle.pol_rows.proofs.rows.Rows.signature_size.Goals as goal
 
