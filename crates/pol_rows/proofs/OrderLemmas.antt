@@ -14,7 +14,7 @@ use Rattle.pol_base.proofs.MemberLemmas.{Contains-here, Contains-there}
 use Rattle.pol_base.proofs.CellLemmas.{cell_of-before}
 use Rattle.pol_base.proofs.OrderLemmas.{Before, Same, After, order_of, slice_cmp-before, slice_cmp-same, slice_cmp-after}
 use Rattle.pol_rows.specs.RowLists.{row_of}
-use Rattle.pol_rows.specs.RowOrders.{AreAscending, IsOrder}
+use Rattle.pol_rows.specs.RowOrders.{AreAscending, IsOrder, IsPlaceFor}
 
 -- what the comparison of two tuples tells of the numbers that they write
 pub record TellsCells (d : ℕ) (xs ys : List ℕ) (less : Bool) : Type 0 where
@@ -43,12 +43,6 @@ cells_compared d n xs ys one other =
 -- the earlier rows keep their numbers
 row_of-push : (rows : List (List ℕ)) (row : List ℕ) (p : ℕ) → p < length rows → row_of (rows ++ row ∷ []) p ≡ row_of rows p
 row_of-push rows row p below = get_or_append_left rows (row ∷ []) [] p below
-
--- where it stands among the numbers that ascend
-pub record IsPlaceFor (d : ℕ) (rows : List (List ℕ)) (numbers row : List ℕ) (place : ℕ) : Type 0 where
-  pub within : place ≤ length numbers
-  pub before : (k : ℕ) → k < place → cell_of d (row_of rows (get_or numbers k 0)) ≤ cell_of d row
-  pub behind : (k : ℕ) → place ≤ k → k < length numbers → cell_of d row ≤ cell_of d (row_of rows (get_or numbers k 0))
 
 pub order_more :
     (d count place : ℕ) (rows : List (List ℕ)) (order row : List ℕ)

@@ -1,6 +1,6 @@
 -- Pairs of rows that agree before a place, gathered run by run.
 use Rattle.std.proofs.Common.{◌≡◌, ℕ, zero, suc, ◌+◌, ◌<◌, ◌≤◌, ◌⊎◌, ◌↔◌, inl, inr, Option, Some, None, List, [], ◌∷◌, ◌++◌, ◌∙◌, length, take, drop, Contains, append_assoc, append-nil, sym, ap, refl, subst, arith}
-use Rattle.std.specs.Prelude.{slice_index, IsBitSet, bit_or, IfSome, IsNone}
+use Rattle.std.specs.Prelude.{slice_index, IsBitSet, bit_or, IfSome, IsNone, MatchOption}
 use Rattle.std.proofs.lemmas.Bool.{cases_lt}
 use Rattle.std.proofs.Math.ListN.{set}
 use Rattle.std.proofs.lemmas.List.{take-append-drop, get_or_default, get_or-set_same, get_or-set_other, set-get_or, length-set}
@@ -13,7 +13,30 @@ use Rattle.pol_base.proofs.BitLemmas.{set_or_left, set_or_right, set_pos}
 use Rattle.pol_rows.specs.RowLists.{row_of, IsShownBy, IsNotBehind, IsLeastPair}
 use Rattle.pol_rows.specs.RowOrders.{AreAscending, IsOrder}
 use Rattle.pol_rows.specs.Signatures.{InSignature}
-use Rattle.pol_rows.specs.Runs.{HasAt, SomeHasAt, IsLeastNumber, Agree, IsRun, IsPairAmong, HasPairAmong, AnswersLeastPair}
+use Rattle.pol_rows.specs.Runs.{HasAt, SomeHasAt, IsLeastNumber, Agree, IsRun}
+
+-- ---- pairs of listed numbers
+
+-- two listed numbers whose rows agree before place i and have a and b there
+pub record IsPairAmong (rows : List (List ℕ)) (numbers : List ℕ) (i a b p q : ℕ) : Type 0 where
+  pub first : HasAt rows numbers i a p
+  pub second : HasAt rows numbers i b q
+  pub agree : Agree rows i p q
+
+-- some two are there
+pub record HasPairAmong (rows : List (List ℕ)) (numbers : List ℕ) (i a b : ℕ) : Type 0 where
+  pub one : ℕ
+  pub other : ℕ
+  pub pair : IsPairAmong rows numbers i a b one other
+
+-- the pair comes behind none of which this holds
+pub record IsLeastOf (P : ℕ → ℕ → Type 0) (p q : ℕ) : Type 0 where
+  pub holds : P p q
+  pub least : (j k : ℕ) → P j k → IsNotBehind p q j k
+
+-- the least pair of which this holds, and none exactly where it holds of none
+abbrev pub AnswersLeastPair : (ℕ → ℕ → Type 0) → Option (ℕ × ℕ) → Type 0
+AnswersLeastPair P answer = MatchOption answer ((p q : ℕ) → (P p q → ⊥)) (λ pair. IsLeastOf P pair.0 pair.1)
 
 -- ---- what was walked, and what is left
 

@@ -1,5 +1,5 @@
 -- Numbers of rows in ascending order of these rows.
-use Rattle.std.specs.Prelude.{◌≡◌, ℕ, ◌<◌, List, length, All, Contains}
+use Rattle.std.specs.Prelude.{◌≡◌, ℕ, ◌<◌, ◌≤◌, List, length, slice_index, All, Contains}
 use Rattle.std.specs.List.Sorted.{IsNonDecreasingBy}
 use Rattle.pol_base.specs.Tuples.{cell_of}
 use Rattle.pol_relation.specs.Relations.{tuples_in}
@@ -15,6 +15,12 @@ pub record IsOrder (d : ℕ) (rows : List (List ℕ)) (order : List ℕ) : Type 
   pub are_ascending : AreAscending d rows order
   pub all : (p : ℕ) → p < length rows → Contains order p
   pub as_many : length order ≡ length rows
+
+-- where the row stands among the numbers: the rows before are not greater, and those behind are not less
+pub record IsPlaceFor (d : ℕ) (rows : List (List ℕ)) (numbers row : List ℕ) (place : ℕ) : Type 0 where
+  pub within : place ≤ length numbers
+  pub before : (k : ℕ) → k < place → cell_of d (row_of rows (slice_index numbers k)) ≤ cell_of d row
+  pub behind : (k : ℕ) → place ≤ k → k < length numbers → cell_of d row ≤ cell_of d (row_of rows (slice_index numbers k))
 
 -- rows that stand one behind another, and their order
 pub record AreStored (d n count : ℕ) (values order : List ℕ) : Type 0 where

@@ -1,6 +1,6 @@
 -- Runs of rows that agree before a place, among rows in ascending order.
 use Rattle.std.specs.Prelude.{◌≡◌, ℕ, ◌≤◌, List, length, take, drop, slice_index, Contains, Option, MatchOption}
-use Rattle.pol_rows.specs.RowLists.{row_of, IsNotBehind}
+use Rattle.pol_rows.specs.RowLists.{row_of}
 
 -- the number is listed, and its row has the value at the place
 pub record HasAt (rows : List (List ℕ)) (numbers : List ℕ) (i v p : ℕ) : Type 0 where
@@ -21,7 +21,7 @@ pub record IsLeastNumber (P : ℕ → Type 0) (p : ℕ) : Type 0 where
 abbrev pub AnswersLeastNumber : (ℕ → Type 0) → Option ℕ → Type 0
 AnswersLeastNumber P answer = MatchOption answer ((p : ℕ) → ¬ P p) (IsLeastNumber P)
 
--- the least numbers whose rows have a and b at the place, and none exactly where no row has a or no row has b
+-- the least numbers whose rows have a and b at the place, and none exactly where no row has a or none b
 abbrev pub AnswersLeastWith : List (List ℕ) → List ℕ → ℕ → ℕ → ℕ → Option (ℕ × ℕ) → Type 0
 AnswersLeastWith rows numbers i a b answer =
     MatchOption answer ((p q : ℕ) → HasAt rows numbers i a p → ¬ HasAt rows numbers i b q)
@@ -37,24 +37,3 @@ pub record IsRun (rows : List (List ℕ)) (numbers : List ℕ) (i count : ℕ) :
   pub within : count ≤ length numbers
   pub agree : (p q : ℕ) → Contains (take count numbers) p → Contains (take count numbers) q → Agree rows i p q
   pub apart : (p q : ℕ) → Contains (take count numbers) p → Contains (drop count numbers) q → ¬ Agree rows i p q
-
--- two listed numbers whose rows agree before place i and have a and b there
-pub record IsPairAmong (rows : List (List ℕ)) (numbers : List ℕ) (i a b p q : ℕ) : Type 0 where
-  pub first : HasAt rows numbers i a p
-  pub second : HasAt rows numbers i b q
-  pub agree : Agree rows i p q
-
--- some two are there
-pub record HasPairAmong (rows : List (List ℕ)) (numbers : List ℕ) (i a b : ℕ) : Type 0 where
-  pub one : ℕ
-  pub other : ℕ
-  pub pair : IsPairAmong rows numbers i a b one other
-
--- the pair comes behind none of which this holds
-pub record IsLeastOf (P : ℕ → ℕ → Type 0) (p q : ℕ) : Type 0 where
-  pub holds : P p q
-  pub least : (j k : ℕ) → P j k → IsNotBehind p q j k
-
--- the least pair of which this holds, and none exactly where it holds of none
-abbrev pub AnswersLeastPair : (ℕ → ℕ → Type 0) → Option (ℕ × ℕ) → Type 0
-AnswersLeastPair P answer = MatchOption answer ((p q : ℕ) → ¬ P p q) (λ pair. IsLeastOf P pair.0 pair.1)

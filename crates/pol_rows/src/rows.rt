@@ -2,7 +2,7 @@ ghost use Rattle.std.specs.Prelude.{◌≡◌, ℕ, ◌<◌, ◌≤◌, [], ◌�
 ghost use Rattle.pol_base.specs.Tuples.{IsTuple, cell_of};
 ghost use Rattle.pol_optable.specs.Operations.{image};
 ghost use Rattle.pol_rows.specs.RowLists.{RowsView, IsRows, row_of};
-ghost use Rattle.pol_rows.specs.RowOrders.{AreAscending, IsOrder};
+ghost use Rattle.pol_rows.specs.RowOrders.{AreAscending, IsOrder, IsPlaceFor};
 
 use pol_base::{Domain, NoMemory, Values};
 use pol_optable::OpTable;
@@ -81,11 +81,7 @@ impl Rows {
     fn place_for(&self, numbers: &[u32], row: &[u8]) -> usize
         requires tuple { IsTuple self.now.domain self.now.width row.now }
         requires ascending { AreAscending self.now.domain self.now.rows numbers.now }
-        ensures within { result ≤ length numbers.now }
-        ensures before { (k : ℕ) → k < result
-            → cell_of self.now.domain (row_of self.now.rows (slice_index numbers.now k)) ≤ cell_of self.now.domain row.now }
-        ensures behind { (k : ℕ) → result ≤ k → k < length numbers.now
-            → cell_of self.now.domain row.now ≤ cell_of self.now.domain (row_of self.now.rows (slice_index numbers.now k)) }
+        ensures place { IsPlaceFor self.now.domain self.now.rows numbers.now row.now result }
     {
         let mut low = 0;
         let mut high = numbers.len();

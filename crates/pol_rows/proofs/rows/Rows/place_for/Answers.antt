@@ -1,5 +1,5 @@
 use Rattle.std.proofs.Common.{arith}
-use Rattle.pol_rows.proofs.OrderLemmas.{cells_compared, search_down, search_up}
+use Rattle.pol_rows.proofs.OrderLemmas.{cells_compared, search_down, search_up, search_ends}
 use Rattle.pol_rows.proofs.rows.Rows.place_for.Goals as goal
 
 pub loop-low-preserved-then-is_lt : goal.loop-low-preserved-then-is_lt
@@ -15,3 +15,6 @@ loop-low-preserved c =
     let cells = rw (← c.cmp.ensures, ← c.is_lt.ensures) at told in
     let last = rw c.row.ensures.row at cells.behind c.if-is_lt.false in
     search_up _ _ _ _ _ _ _ c.requires.ascending c.loop-low.invariant (omega (arith, c.loop-low-test.true)) last
+
+pub returns : goal.returns
+returns c = record { place = search_ends _ _ _ _ _ _ c.loop-low.invariant c.loop-low-test.false }
