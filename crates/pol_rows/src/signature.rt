@@ -10,8 +10,8 @@ use pol_base::{Domain, has_value};
 
 impl Rows {
     /// The least pair of numbers of rows that agree before place `i` and have `a` and `b` there. None exactly
-    /// where the triple is not in the signature of the rows. Takes no memory. Goes once over the rows, and
-    /// compares each with a neighbour before the place.
+    /// where the triple is not in the signature of the rows. Takes no memory. Goes once over the rows in their
+    /// order, and compares each with the first of its run before the place.
     pub fn pair_for(&self, i: u32, a: u8, b: u8) -> Option<(u32, u32)>
         requires place { i < self.now.width }
         ensures least { IfSome result (λ pair. IsLeastPair self.now.rows i a b pair.0 pair.1) }
@@ -29,8 +29,8 @@ impl Rows {
         least
     }
 
-    /// How many triples the signature of the rows has. Takes no memory. Goes once over the rows for each place,
-    /// and compares each with a neighbour before the place: linear in the rows, quadratic in the places.
+    /// How many triples the signature of the rows has. Takes no memory. Does for each place what `pair_for` does
+    /// for one: linear in the rows, at most quadratic in the places.
     pub fn signature_size(&self) -> u32
         ensures size { IsSignatureSize self.now.width self.now.domain (Contains self.now.rows) result }
         ensures few { result ≤ self.now.width * (self.now.domain * self.now.domain) }
