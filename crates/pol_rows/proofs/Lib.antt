@@ -1,0 +1,6 @@
+pub mod FlatLemmas
+pub mod OrderLemmas
+pub mod RunLemmas
+pub mod PairLemmas
+pub mod SizeLemmas
+pub mod TripleLemmas

@@ -1,0 +1,6 @@
+pub mod Signatures
+pub mod RowLists
+pub mod RowOrders
+pub mod Runs
+pub mod Counts
+pub mod Laws
