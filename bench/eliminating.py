@@ -14,12 +14,12 @@ no proof, is full of checks and dozens of times slower. This takes some minutes 
 """
 import os
 import resource
-import shutil
 import subprocess
 import sys
 import tempfile
 
-TOP = os.path.dirname(os.path.dirname(os.path.abspath(__file__)))
+import building
+
 MOST_MILLISECONDS = 50
 FEW, MANY = 1, 101
 PROGRAM = """//! Eliminates a dense system so many times, and writes a checksum of the answers.
@@ -119,31 +119,9 @@ fn drawn(p: u8, seed: &mut u32) -> [u8; 40]
 """
 
 
-def needed(name, uses):
-    """The crates of the repository that a crate stands on, each behind those it uses, and the crate itself."""
-    found = []
-    for used in uses[name]:
-        found += [crate for crate in needed(used, uses) if crate not in found] if used in uses else []
-    return found + [name]
-
-
 def build(folder):
     """The program that is built in the folder."""
-    with open(os.path.join(TOP, "crates.txt"), encoding="utf-8") as source:
-        halves = [line.partition("#")[0].partition(":") for line in source]
-    uses = {name.split()[0]: used.split() for name, colon, used in halves if colon}
-    uses["dense"] = ["pol_base", "pol_modp"]
-    names = needed("dense", uses)
-    with open(os.path.join(folder, "crates.txt"), "w", encoding="utf-8") as out:
-        out.writelines(f"{name}: {' '.join(uses[name])}\n" for name in names)
-    crates = os.path.join(folder, "crates")
-    for name in names[:-1]:
-        copy = os.path.join(crates, name)
-        shutil.copytree(os.path.join(TOP, "crates", name), copy, ignore=shutil.ignore_patterns("out"))
-    dense = os.path.join(crates, "dense")
-    os.makedirs(os.path.join(dense, "src"))
-    with open(os.path.join(dense, "src", "main.rt"), "w", encoding="utf-8") as out:
-        out.write(PROGRAM)
+    dense = building.make(folder, "dense", ["pol_base", "pol_modp"], PROGRAM)
     command = ["rt", "run", "--", "2", "0", "1"]
     done = subprocess.run(command, cwd=dense, stdin=subprocess.DEVNULL, capture_output=True, check=False)
     if done.returncode != 0:

@@ -1,7 +1,8 @@
 #!/usr/bin/env python3
 """Times `polyanna report` on instances of each class that has a solver, beside their languages alone, in one run.
 
-    bench/solving.py [FAMILY]    makes the files in a temporary folder, and prints a line for each size of each family
+    bench/solving.py [--made] [FAMILY]    makes the files in a temporary folder, and prints a line for each size of each
+                                          family
 
 A file has one instance: 10, 20 or 40 variables and 30 to 256 constraints at random. They are drawn as they come
 (`free`), or so that hidden values meet them, and there is a solution (`hidden`); where a relation lets two values take
@@ -10,6 +11,11 @@ there is no solution, and arc consistency does not show it. Of each kind there a
 answers, the most steps or parts that are printed, and the most processor time: that of a whole run (the best of three) less that
 of the language without the instance. Each run has so much address space, libraries included, as its class may take, and
 must end with status 0 in it. With a FAMILY, those whose names contain it are run alone.
+
+With --made the line also has the most steps that a solver made for a No before its log was trimmed, which no command
+tells. A program that is built first, in the temporary folder with copies of the crates, counts them for all instances
+with such a No, before anything is timed. It has no contracts and is run by `rt try`, unproved, since no time is taken
+from it. That takes half a minute for the build, and some ten minutes for the instances of all families.
 
 Wanted: by arcs (semilattice operations and set functions) an answer within 10 ms, by majority operations within 50 ms,
 each in 16 MiB; by operations of arity four within 1 s, in 128 MiB; by affine operations within 20 ms, in 16 MiB.
@@ -22,6 +28,8 @@ import subprocess
 import sys
 import tempfile
 
+import building
+
 TOP = os.path.dirname(os.path.dirname(os.path.abspath(__file__)))
 PROGRAM = os.path.join(TOP, "crates", "polyanna", "out", "polyanna")
 MEBIBYTE = 1 << 20
@@ -30,6 +38,65 @@ LIMITS = {"semilattice": (10, 16), "set-function": (10, 16), "majority": (50, 16
 # the cubes of the numbers of rows of a language sum to at most 2^21
 MOST_ROWS = 100
 SIZES = [(10, 30), (10, 60), (20, 30), (20, 60), (20, 120), (40, 30), (40, 60), (40, 120), (40, 256)]
+# what the program that counts uses, and its src/main.rt
+USED = "pol_base pol_outside pol_relation pol_optable pol_classify pol_nogood pol_lang pol_arc pol_strong".split()
+COUNTER = """//! Writes of each instance of a file how many steps the log of its No has before it is trimmed.
+#![tactic(auto)]
+
+use pol_arc::{Consistency, arc};
+use pol_base::{ClassName, NoMemory};
+use pol_classify::classify;
+use pol_lang::read_file;
+use pol_nogood::LogAnswer;
+use pol_optable::{Classes, Nu4};
+use pol_outside::{ReaderSource, read_all};
+use pol_relation::{Instance, Language};
+use pol_strong::solve_nu;
+use std::alloc::Global;
+use std::process::ExitCode;
+
+fn main(rt: HostRuntime) -> ExitCode {
+    let mut source = ReaderSource::new(rt.stdin());
+    let Ok(bytes) = read_all(rt.alloc(), &mut source, 1 << 28) else {
+        return ExitCode::FAILURE;
+    };
+    let Ok((file, _rest)) = read_file(rt.alloc(), bytes.as_slice()) else {
+        return ExitCode::FAILURE;
+    };
+    let Ok(classes) = classify(rt.alloc(), file.lang()) else {
+        return ExitCode::FAILURE;
+    };
+    for i in 0..file.instances() {
+        match made(rt.alloc(), file.lang(), file.instance(i), &classes) {
+            Ok(Some(steps)) if println!(rt; "{steps}").is_ok() => {}
+            _ => return ExitCode::FAILURE,
+        }
+    }
+    ExitCode::SUCCESS
+}
+
+/// The steps of arc consistency where these show that there is no solution, and else those of strong consistency.
+/// Nothing where the instance has a solution, or is not answered by a log.
+fn made(
+    alloc: Global,
+    lang: &Language,
+    inst: &Instance,
+    classes: &Classes,
+) -> Result<Option<u32>, NoMemory> {
+    if let Consistency::Wiped(log) = arc(alloc, lang, inst)? {
+        return Ok(Some(log.len()));
+    }
+    let given = match (classes.first(), &classes.majority, &classes.nu4) {
+        (Some(ClassName::Majority), Some(op), _) => solve_nu(alloc, lang, inst, op)?,
+        (Some(ClassName::Nu4), _, Nu4::Found(op)) => solve_nu(alloc, lang, inst, op)?,
+        _ => return Ok(None),
+    };
+    Ok(match given {
+        LogAnswer::No(log) => Some(log.len()),
+        LogAnswer::Yes(_) => None,
+    })
+}
+"""
 
 
 def full(size, arity):
@@ -137,6 +204,18 @@ def drawn(size, relations, ring, variables, count, kind, seed):
     return constraints
 
 
+def kinds(ring):
+    return ("free", "hidden", "ring") if ring else ("free", "hidden")
+
+
+def files(family, kind, variables, count):
+    """The files of three instances of a kind."""
+    _, _, size, relations, ring = family
+    for seed in range(3):
+        constraints = drawn(size, relations, ring, variables, count, kind, 1000 * variables + 3 * count + seed)
+        yield text(size, relations, variables, constraints)
+
+
 def run(path, memory):
     """The least processor milliseconds of three runs, the last status, and what was written."""
     best = None
@@ -165,31 +244,69 @@ def answer(report):
     return None, "nothing", 0
 
 
-def measure(path, family, kind, variables, count, alone):
+def refuted(wanted):
+    """The files of the families with such a name of which the report has a No with a log."""
+    for family in families():
+        if wanted not in family[0] or family[1] == "affine":
+            continue
+        for (variables, count), kind in itertools.product(SIZES, kinds(family[4])):
+            for source in files(family, kind, variables, count):
+                command = [PROGRAM, "report"]
+                done = subprocess.run(command, input=source.encode("ascii"), capture_output=True, check=False)
+                chosen, said, _ = answer(done.stdout.decode("ascii"))
+                if chosen == family[1] and said == "no":
+                    yield source
+
+
+def steps_made(folder, wanted):
+    """How many steps the solver made for each of the refuted files, by their texts."""
+    sources = list(refuted(wanted))
+    if not sources:
+        return {}
+    cases = os.path.join(folder, "cases")
+    os.mkdir(cases)
+    for number, source in enumerate(sources):
+        with open(os.path.join(cases, str(number)), "w", encoding="ascii") as out:
+            out.write(source)
+    # the interpreter, which it is run on too, stops at once
+    command = ["rt", "try", "--cases", cases, "--steps", "1"]
+    counter = building.make(folder, "made", USED, COUNTER)
+    done = subprocess.run(command, cwd=counter, stdin=subprocess.DEVNULL, capture_output=True, check=False)
+    # of each case a line `== NAME`, and the number
+    words = done.stdout.decode("ascii").split()
+    made = {sources[int(name)]: int(steps) for name, steps in zip(words[1::3], words[2::3])}
+    if done.returncode != 0 or len(words) != 3 * len(sources):
+        sys.exit(f"{done.stderr.decode()[-4000:]}\nbench: the steps were not counted")
+    return made
+
+
+def measure(path, family, kind, variables, count, alone, made):
     """What is told of three instances of a kind, and whether each limit held."""
-    _, wanted, size, relations, ring = family
+    wanted = family[1]
     most, memory = LIMITS[wanted]
-    slowest, steps, told, good = 0.0, 0, [], True
-    for seed in range(3):
-        constraints = drawn(size, relations, ring, variables, count, kind, 1000 * variables + 3 * count + seed)
+    slowest, steps, before, told, good = 0.0, 0, 0, [], True
+    for source in files(family, kind, variables, count):
         with open(path, "w", encoding="ascii") as out:
-            out.write(text(size, relations, variables, constraints))
+            out.write(source)
         spent, status, report = run(path, memory)
         chosen, said, number = answer(report)
-        slowest, steps = max(slowest, spent - alone), max(steps, number)
+        slowest, steps, before = max(slowest, spent - alone), max(steps, number), max(before, made.get(source, 0))
         told.append(said if status == 0 and chosen == wanted else f"{said} by {chosen} with status {status}")
         good &= status == 0 and chosen == wanted and spent - alone <= most
     logs = f" in at most {steps} {'parts' if wanted == 'affine' else 'steps'}" if steps else ""
+    logs += f" of at most {before} made" if before else ""
     return f"{kind} {', '.join(told)}{logs}, {slowest:.1f} ms{'' if good else ' MISSED'}", good
 
 
 def main():
     if not os.access(PROGRAM, os.X_OK):
         sys.exit("bench: build the program first, by ./polyanna")
-    wanted = sys.argv[1] if len(sys.argv) > 1 else ""
+    words = [word for word in sys.argv[1:] if word != "--made"]
+    wanted = words[0] if words else ""
     good = True
     with tempfile.TemporaryDirectory() as folder:
         path = os.path.join(folder, "input")
+        made = steps_made(folder, wanted) if "--made" in sys.argv[1:] else {}
         for family in families():
             name, kind, size, relations, ring = family
             if wanted not in name:
@@ -199,8 +316,7 @@ def main():
             alone, _, _ = run(path, LIMITS[kind][1])
             print(f"{name}: {kind}, at most {LIMITS[kind][0]} ms, and the language alone {alone:.1f} ms", flush=True)
             for variables, count in SIZES:
-                kinds = ("free", "hidden", "ring") if ring else ("free", "hidden")
-                lines = [measure(path, family, kind, variables, count, alone) for kind in kinds]
+                lines = [measure(path, family, drawing, variables, count, alone, made) for drawing in kinds(ring)]
                 good &= all(held for _, held in lines)
                 told = "; ".join(line for line, _ in lines)
                 print(f"  {variables} variables, {count} constraints: {told}", flush=True)
