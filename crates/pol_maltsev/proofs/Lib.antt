@@ -1,0 +1,10 @@
+pub mod TupleLemmas
+pub mod ClosureLemmas
+pub mod MeetingLemmas
+pub mod SizeLemmas
+pub mod CompactLemmas
+pub mod SwapLemmas
+pub mod OrderLemmas
+pub mod RestrictionLemmas
+pub mod TableLemmas
+pub mod NextLemmas

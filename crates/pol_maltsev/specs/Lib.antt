@@ -1,0 +1,7 @@
+pub mod Signatures
+pub mod Representations
+pub mod Orders
+pub mod Tables
+pub mod Swaps
+pub mod Restrictions
+pub mod FromRows

@@ -1,0 +1,71 @@
+-- What is made of a table where its set shrinks to the members that some first places decide.
+use Rattle.std.specs.Prelude.{◌≡◌, ◌<◌, ℕ, List, [], ◌∷◌, slice_index, All, Contains}
+use Rattle.pol_relation.specs.Instances.{read_at}
+use Rattle.pol_optable.specs.Operations.{Operation, value_at}
+use Rattle.pol_maltsev.specs.Representations.{ReadsRow}
+use Rattle.pol_maltsev.specs.Tables.{Agree, SameRoot, IsLeastOf}
+
+-- a member whose values at the first k places of the order are those of a word
+pub record IsReading (T : List ℕ → Type 0) (ord word : List ℕ) (k : ℕ) (t : List ℕ) : Type 0 where
+  pub inside : T t
+  pub reads : (i : ℕ) → i < k → slice_index t (slice_index ord i) ≡ slice_index word i
+
+-- values at place p: those of the rows at the first k places of the order, and what the operation makes of them
+pub record AreValues (f : Operation) (k p : ℕ) (ord : List ℕ) (row : ℕ → ℕ → List ℕ) (root : ℕ → ℕ → ℕ) (V : ℕ → Type 0) : Type 0 where
+  pub of_rows : (i a : ℕ) → i < k → a < f.domain → root (slice_index ord i) a < f.domain → V (slice_index (row (slice_index ord i) a) p)
+  pub closed : (a b c : ℕ) → V a → V b → V c → V (value_at f (a ∷ b ∷ c ∷ []))
+
+-- a smaller set, which the values at S decide
+pub record IsPart (T U : List ℕ → Type 0) (S : ℕ → Type 0) : Type 0 where
+  pub within : (t : List ℕ) → U t → T t
+  pub decided : (t u : List ℕ) → U t → T u → Agree S u t → U u
+
+-- later places after a restriction: the values found, their rows, and the old roots
+pub record IsMadeLate (d : ℕ) (U : List ℕ → Type 0) (S : ℕ → Type 0) (p : ℕ) (V : ℕ → Type 0) (old : ℕ → ℕ) (row : ℕ → List ℕ) (root : ℕ → ℕ) : Type 0 where
+  pub found : (a : ℕ) → a < d → root a < d → V a
+  pub old_root : (a : ℕ) → a < d → V a → root a ≡ old a
+  pub classes : (a b : ℕ) → a < d → b < d → V a → SameRoot d old a b → V b
+  pub inside : (a : ℕ) → a < d → V a → U (row a)
+  pub there : (a : ℕ) → a < d → V a → slice_index (row a) p ≡ a
+  pub together : (a b : ℕ) → a < d → b < d → V a → V b → SameRoot d old a b → Agree S (row a) (row b)
+
+-- a listed member with a at j
+pub record HasListed (rows : List (List ℕ)) (j a : ℕ) : Type 0 where
+  pub member : List ℕ
+  pub listed : Contains rows member
+  pub at : slice_index member j ≡ a
+
+-- a listed member with c at j agrees with the base of b at S
+pub record SharesBase (rows : List (List ℕ)) (S : ℕ → Type 0) (j : ℕ) (base : ℕ → List ℕ) (c b : ℕ) : Type 0 where
+  pub owner : HasListed rows j b
+  pub member : List ℕ
+  pub listed : Contains rows member
+  pub at : slice_index member j ≡ c
+  pub near : Agree S member (base b)
+
+-- earlier places after a restriction, from listed members and one base for each value
+pub record IsMadeEarly (d : ℕ) (rows : List (List ℕ)) (S : ℕ → Type 0) (j : ℕ) (base : ℕ → List ℕ) (row : ℕ → List ℕ) (root : ℕ → ℕ) : Type 0 where
+  pub base_listed : (b : ℕ) → HasListed rows j b → Contains rows (base b)
+  pub base_at : (b : ℕ) → HasListed rows j b → slice_index (base b) j ≡ b
+  pub gone : (c : ℕ) → c < d → root c < d → HasListed rows j c
+  pub chosen : (c : ℕ) → c < d → HasListed rows j c → IsLeastOf d (SharesBase rows S j base c) (root c)
+  pub listed : (c : ℕ) → c < d → HasListed rows j c → Contains rows (row c)
+  pub at : (c : ℕ) → c < d → HasListed rows j c → slice_index (row c) j ≡ c
+  pub near : (c : ℕ) → c < d → HasListed rows j c → Agree S (row c) (base (root c))
+
+-- a listed member that agrees with t at Q
+pub record IsCovered (rows : List (List ℕ)) (Q : ℕ → Type 0) (t : List ℕ) : Type 0 where
+  pub member : List ℕ
+  pub listed : Contains rows member
+  pub same : Agree Q member t
+
+-- a listed member reads the word
+pub record IsFound (scope : List ℕ) (found : List (List ℕ)) (word : List ℕ) : Type 0 where
+  pub member : List ℕ
+  pub listed : Contains found member
+  pub reads : read_at member scope ≡ word
+
+-- listed members that read rows, one for each row that a member reads
+pub record AreReaders (T : List ℕ → Type 0) (scope : List ℕ) (words found : List (List ℕ)) : Type 0 where
+  pub inside : All (ReadsRow T scope words) found
+  pub each : (t : List ℕ) → ReadsRow T scope words t → IsFound scope found (read_at t scope)

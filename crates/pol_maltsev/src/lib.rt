@@ -1,0 +1,3 @@
+//! Sets of tuples that a Mal'tsev operation preserves, by compact representations, and the solver of
+//! languages that such an operation preserves.
+#![tactic(auto)]
