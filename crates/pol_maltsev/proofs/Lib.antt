@@ -8,3 +8,4 @@ pub mod OrderLemmas
 pub mod RestrictionLemmas
 pub mod TableLemmas
 pub mod NextLemmas
+pub mod SetLemmas

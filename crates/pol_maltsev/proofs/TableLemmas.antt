@@ -185,12 +185,12 @@ same_set n d T U ord row root same table = record { order = table.order; known =
     }
 
 -- a member of C that agrees with t at S
-record IsClose (C : List ℕ → Type 0) (S : ℕ → Type 0) (t : List ℕ) : Type 0 where
-  member : List ℕ
-  inside : C member
-  near : Agree S member t
+pub record IsClose (C : List ℕ → Type 0) (S : ℕ → Type 0) (t : List ℕ) : Type 0 where
+  pub member : List ℕ
+  pub inside : C member
+  pub near : Agree S member t
 
-close_at : (f : Operation) (n m : ℕ) (T C : List ℕ → Type 0) (ord : List ℕ) (row : ℕ → ℕ → List ℕ) (root : ℕ → ℕ → ℕ) (t : List ℕ) → IsMaltsev f → IsPreserved f n T → IsPreserved f n C → ((u : List ℕ) → C u → T u) →
+pub close_at : (f : Operation) (n m : ℕ) (T C : List ℕ → Type 0) (ord : List ℕ) (row : ℕ → ℕ → List ℕ) (root : ℕ → ℕ → ℕ) (t : List ℕ) → IsMaltsev f → IsPreserved f n T → IsPreserved f n C → ((u : List ℕ) → C u → T u) →
     IsTable n f.domain T ord row root → ((p a : ℕ) → p < n → a < f.domain → root p a < f.domain → C (row p a)) → T t → 1 ≤ n → m ≤ n → IsClose C (InFront ord m) t
 close_at f n zero T C ord row root t mal kept kept' within table rows in_t one low = record {
   member = row (slice_index ord 0) (slice_index t (slice_index ord 0));

@@ -5,3 +5,4 @@ pub mod Tables
 pub mod Swaps
 pub mod Restrictions
 pub mod FromRows
+pub mod Views

@@ -1,3 +1,7 @@
 //! Sets of tuples that a Mal'tsev operation preserves, by compact representations, and the solver of
 //! languages that such an operation preserves.
 #![tactic(auto)]
+
+mod classes;
+mod row;
+mod table;
