@@ -9,3 +9,5 @@ pub mod RestrictionLemmas
 pub mod TableLemmas
 pub mod NextLemmas
 pub mod SetLemmas
+pub mod SwapTables
+pub mod MadeLemmas

@@ -131,7 +131,7 @@ swapped_order n k old new order h low = record {
         by (inr a) (inr b) (inr c) (inl d) = absurd (a.1 (rw (a.0, b.0, c.0, d.0) at e))
         by (inr a) (inr b) (inr c) (inr d) = rw (a.0, b.0, c.0, d.0) at e
 
-swap_of : (f : Operation) (n k : ℕ) (T : List ℕ → Type 0) (ord : List ℕ) (row : ℕ → ℕ → List ℕ) (root : ℕ → ℕ → ℕ) → IsMaltsev f → IsPreserved f n T → IsTable n f.domain T ord row root → k + 1 < n →
+pub swap_of : (f : Operation) (n k : ℕ) (T : List ℕ → Type 0) (ord : List ℕ) (row : ℕ → ℕ → List ℕ) (root : ℕ → ℕ → ℕ) → IsMaltsev f → IsPreserved f n T → IsTable n f.domain T ord row root → k + 1 < n →
     IsSwap f n T (InFront ord k) (sides ord k row root)
 swap_of f n k T ord row root mal kept table low = record {
   frame = front_frame f n T ord k mal kept table.order (omega (arith, low));

@@ -68,3 +68,22 @@ pub record IsSwappedTable (f : Operation) (n k : ℕ) (old new : List ℕ) (row 
   pub at_y : IsMadeY f n (sides old k row root) (row' (slice_index old (k + 1))) (root' (slice_index old (k + 1)))
   pub same_rows : (p a : ℕ) → p < n → a < f.domain → p ≢ slice_index old k → p ≢ slice_index old (k + 1) → row' p a ≡ row p a
   pub same_roots : (p a : ℕ) → p < n → a < f.domain → p ≢ slice_index old k → p ≢ slice_index old (k + 1) → root' p a ≡ root p a
+
+-- what stands at x afterwards for the value a
+pub record IsLateAt (f : Operation) (n : ℕ) (s : Sides) (a : ℕ) (row : List ℕ) (root : ℕ) : Type 0 where
+  pub gone : root < f.domain → s.cx a < f.domain
+  pub chosen : s.cx a < f.domain → IsLeastOf f.domain (StayTogether f.domain s a) root
+  pub moved : s.cx a < f.domain → row ≡ step f n s.y s.ry (s.rx a) (slice_index (s.rx root) s.y)
+
+-- what stands at y afterwards for the value c
+pub record IsEarlyAt (f : Operation) (n : ℕ) (s : Sides) (c : ℕ) (row : List ℕ) (root : ℕ) : Type 0 where
+  pub gone : root < f.domain → s.cy c < f.domain
+  pub chosen : s.cy c < f.domain → IsLeastOf f.domain (LeadsTo f s c) root
+  pub kept : s.cy c < f.domain → SameRoot f.domain s.cy root c → row ≡ s.ry c
+  pub moved : s.cy c < f.domain → ¬ SameRoot f.domain s.cy root c → IsLed f n s root c row
+
+-- x goes from the value that the row of b has there to q, so that y comes into the class of c
+pub record IsWay (f : Operation) (s : Sides) (b c q : ℕ) : Type 0 where
+  pub below : q < f.domain
+  pub may : SameRoot f.domain s.cx (slice_index (s.ry b) s.x) q
+  pub meets : SameRoot f.domain s.cy (led f s b (slice_index (s.ry b) s.x) q) c

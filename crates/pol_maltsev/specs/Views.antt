@@ -1,10 +1,10 @@
 -- How tables are seen, and the set of tuples that one stands for.
-use Rattle.std.specs.Prelude.{◌≡◌, ◌<◌, ◌≤◌, ◌+◌, ◌↔◌, ℕ, List, [], ◌∷◌, length, slice_index, slice_index_or, All}
+use Rattle.std.specs.Prelude.{◌≡◌, ◌<◌, ◌≤◌, ◌+◌, ◌↔◌, ◌≢◌, ◌++◌, ℕ, List, [], ◌∷◌, length, slice_index, slice_index_or, All}
 use Rattle.pol_base.specs.Tuples.{IsDomain, IsTuple}
 use Rattle.pol_optable.specs.Operations.{Operation, image}
 use Rattle.pol_optable.specs.Tables.{IsOpTable}
 use Rattle.pol_optable.specs.Identities.{IsMaltsev}
-use Rattle.pol_maltsev.specs.Orders.{IsOrder}
+use Rattle.pol_maltsev.specs.Orders.{IsSwapped}
 use Rattle.pol_maltsev.specs.Tables.{IsTable}
 use Rattle.pol_maltsev.specs.Swaps.{Sides, sides, IsSwappedTable}
 
@@ -92,3 +92,29 @@ pub record HaveOneShape (old new : TableView) : Type 0 where
 -- the operation's closures of the rows of both tables are one set
 abbrev pub HaveOneSet : Operation → TableView → TableView → Type 0
 HaveOneSet f old new = (t : List ℕ) → InTable f new t ↔ InTable f old t
+
+-- for each of the first values a row and a root, of which something holds
+pub record AreMade (P : ℕ → List ℕ → ℕ → Type 0) (d n count : ℕ) (c : ClassesView) : Type 0 where
+  pub all_rows : length c.rows ≡ count
+  pub tuples : All (IsTuple d n) c.rows
+  pub all_roots : length c.roots ≡ count
+  pub most : All (λ r. r ≤ d) c.roots
+  pub each : (a : ℕ) → a < count → P a (row_of c a) (root_of c a)
+
+-- the classes with a further row and root
+abbrev pub with_value : ClassesView → List ℕ → ℕ → ClassesView
+with_value c row root = record { rows = c.rows ++ row ∷ []; roots = c.roots ++ root ∷ [] }
+
+-- a row and a root for a value, of which something holds
+pub record IsMade (P : ℕ → List ℕ → ℕ → Type 0) (d n a : ℕ) (row : List ℕ) (root : ℕ) : Type 0 where
+  pub tuple : IsTuple d n row
+  pub most : root ≤ d
+  pub holds : P a row root
+
+-- the classes of the places at positions k and k + 1 are replaced, and the places change their order
+pub record IsReplaced (k : ℕ) (late early : ClassesView) (old new : TableView) : Type 0 where
+  pub shape : HaveOneShape old new
+  pub order : IsSwapped k old.order new.order
+  pub late_is : classes_at new (slice_index old.order k) ≡ late
+  pub early_is : classes_at new (slice_index old.order (k + 1)) ≡ early
+  pub others : (p : ℕ) → p ≢ slice_index old.order k → p ≢ slice_index old.order (k + 1) → classes_at new p ≡ classes_at old p

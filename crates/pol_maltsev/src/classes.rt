@@ -1,6 +1,6 @@
-ghost use Rattle.std.specs.Prelude.{◌≡◌, ◌↔◌, ℕ, ◌<◌, List, [], ◌∷◌, ◌++◌, length, IsTrue, OnOk};
+ghost use Rattle.std.specs.Prelude.{◌≡◌, ◌↔◌, ◌<◌, length, IsTrue, OnOk};
 ghost use Rattle.pol_maltsev.specs.Tables.{SameRoot};
-ghost use Rattle.pol_maltsev.specs.Views.{ClassesView, no_classes, row_of, root_of};
+ghost use Rattle.pol_maltsev.specs.Views.{no_classes, row_of, root_of, with_value};
 
 use crate::row::Row;
 use pol_base::{Domain, NoMemory};
@@ -35,10 +35,7 @@ impl ValueClasses {
 
     /// Adds what is kept for the next value.
     pub(crate) fn push(&mut self, row: Row, root: u8) -> Result<(), NoMemory>
-        ensures ok { OnOk result (self.new ≡ record {
-            rows = self.old.rows ++ row ∷ [];
-            roots = self.old.roots ++ root ∷ [];
-        }) }
+        ensures ok { OnOk result (self.new ≡ with_value self.old row root) }
     {
         self.rows.push(row)?;
         self.roots.push(root)?;

@@ -4,4 +4,5 @@
 
 mod classes;
 mod row;
+mod swapping;
 mod table;

@@ -60,6 +60,7 @@ impl Table {
         requires position { k < self.now.width }
         ensures place { result ≡ slice_index self.now.order k }
         ensures below { result < self.now.width }
+        ensures view { IsTableView self.now }
     {
         self.order[k as usize]
     }

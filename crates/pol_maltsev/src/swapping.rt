@@ -1,0 +1,149 @@
+ghost use Rattle.std.specs.Prelude.{◌≡◌, ◌↔◌, ℕ, ◌<◌, ◌≤◌, ◌+◌, length, slice_index, IsTrue, IfOk, OnOk, OnErr};
+ghost use Rattle.pol_maltsev.specs.Tables.{IsLeastOf};
+ghost use Rattle.pol_maltsev.specs.Swaps.{StayTogether, LeadsTo, led, IsLateAt, IsEarlyAt, IsLed, IsWay};
+ghost use Rattle.pol_maltsev.specs.Views.{AreClasses, AreMade, IsMade, IsSoundTable, IsReplaced, HaveOneShape, HaveOneSet, root_in, sides_at};
+
+use crate::classes::ValueClasses;
+use crate::row::Row;
+use crate::table::Table;
+use pol_base::NoMemory;
+use pol_optable::OpTable;
+use std::alloc::Global;
+
+impl Table {
+    /// Whether both values of the place at position `k` stay in one class where the next place comes
+    /// before it.
+    fn stay_together(&self, k: u32, a: u8, b: u8) -> bool
+        requires position { k + 1 < self.now.width }
+        requires first { a < self.now.domain }
+        requires second { b < self.now.domain }
+        ensures together { IsTrue result ↔ StayTogether self.now.domain (sides_at self.now k) a b }
+    {
+        let x = self.place(k);
+        let y = self.place(k + 1);
+        if !self.same(x, a, b) {
+            return false;
+        }
+        self.same(y, self.row(x, a)[y as usize], self.row(x, b)[y as usize])
+    }
+
+    /// The least value that stays in one class with a value of the place at position `k`.
+    fn late_root(&self, k: u32, a: u8) -> u8
+        requires position { k + 1 < self.now.width }
+        requires value { a < self.now.domain }
+        requires itself { StayTogether self.now.domain (sides_at self.now k) a a }
+        ensures root { IsLeastOf self.now.domain (StayTogether self.now.domain (sides_at self.now k) a) result }
+    {
+        for b in 0..a {
+            if self.stay_together(k, a, b) {
+                return b;
+            }
+        }
+        a
+    }
+
+    /// The value at the place at position `k + 1` that leads on from `c` where the place before it goes
+    /// from `p` to `q`.
+    fn led(&self, op: &OpTable<3>, k: u32, c: u8, p: u8, q: u8) -> u8
+        requires domain { self.now.domain ≡ op.now.domain }
+        requires position { k + 1 < self.now.width }
+        requires value { c < self.now.domain }
+        requires from { p < self.now.domain }
+        requires to { q < self.now.domain }
+        ensures led { result ≡ led op.now (sides_at self.now k) c p q }
+        ensures below { result < self.now.domain }
+    {
+        let x = self.place(k);
+        let y = self.place(k + 1) as usize;
+        op.apply(&[c, self.row(x, p)[y], self.row(x, q)[y]])
+    }
+}
+
+impl Table {
+    /// The row and the root of a value of the place at position `k`, where the next place comes before it.
+    fn late_value(
+        &self,
+        alloc: Global,
+        op: &OpTable<3>,
+        k: u32,
+        a: u8,
+    ) -> Result<(Row, u8), NoMemory>
+        requires sound { IsSoundTable op.now self.now }
+        requires position { k + 1 < self.now.width }
+        requires value { a < self.now.domain }
+        ensures made { IfOk result (λ m. IsMade (IsLateAt op.now self.now.width (sides_at self.now k))
+            self.now.domain self.now.width a m.0 m.1) }
+    {
+        let x = self.place(k);
+        let y = self.place(k + 1);
+        let d = self.domain().size();
+        let row = self.row(x, a);
+        if self.root(x, a) == d {
+            return Ok((Row::from_slice(alloc, row)?, d));
+        }
+        let root = self.late_root(k, a);
+        let moved = self.step(alloc, op, y, row, self.row(x, root)[y as usize])?;
+        Ok((moved, root))
+    }
+
+    /// The classes of the place at position `k`, where the next place comes before it.
+    fn late(&self, alloc: Global, op: &OpTable<3>, k: u32) -> Result<ValueClasses, NoMemory>
+        requires sound { IsSoundTable op.now self.now }
+        requires position { k + 1 < self.now.width }
+        ensures made { IfOk result (λ m. AreMade (IsLateAt op.now self.now.width (sides_at self.now k))
+            self.now.domain self.now.width self.now.domain m) }
+    {
+        let mut made = ValueClasses::new(alloc);
+        for a in 0..self.domain().size() {
+            let (row, root) = self.late_value(alloc, op, k, a)?;
+            made.push(row, root)?;
+        }
+        Ok(made)
+    }
+}
+
+impl Table {
+    /// The least root of a value that `c`, of the place at position `k + 1`, leads to where the place
+    /// before it changes its value.
+    fn early_root(&self, op: &OpTable<3>, k: u32, c: u8) -> u8
+        requires sound { IsSoundTable op.now self.now }
+        requires position { k + 1 < self.now.width }
+        requires value { c < self.now.domain }
+        requires present { (sides_at self.now k).cy c < self.now.domain }
+        ensures root { IsLeastOf self.now.domain (LeadsTo op.now (sides_at self.now k) c) result }
+    {
+        let x = self.place(k);
+        let y = self.place(k + 1);
+        let p = self.row(y, c)[x as usize];
+        let mut least = self.root(y, c);
+        for q in 0..self.domain().size() {
+            if self.same(x, p, q) {
+                least = least.min(self.root(y, self.led(op, k, c, p, q)));
+            }
+        }
+        least
+    }
+
+    /// A value to which the place at position `k` may go from the row of `b`, so that the next place
+    /// comes into the class of `c`.
+    fn way(&self, op: &OpTable<3>, k: u32, b: u8, c: u8) -> u8
+        requires domain { self.now.domain ≡ op.now.domain }
+        requires position { k + 1 < self.now.width }
+        requires from { b < self.now.domain }
+        requires to { c < self.now.domain }
+        requires present { (sides_at self.now k).cy c < self.now.domain }
+        requires leads { LeadsTo op.now (sides_at self.now k) b ((sides_at self.now k).cy c) }
+        ensures way { IsWay op.now (sides_at self.now k) b c result }
+    {
+        let x = self.place(k);
+        let y = self.place(k + 1);
+        let p = self.row(y, b)[x as usize];
+        for q in 0..self.domain().size() {
+            if self.same(x, p, q) && self.same(y, self.led(op, k, b, p, q), c) {
+                return q;
+            }
+        }
+        // not reached: some value is such
+        0
+    }
+}
