@@ -7,10 +7,10 @@ use Rattle.pol_optable.specs.Operations.{Operation, image}
 use Rattle.pol_optable.specs.Tables.{IsOpTable}
 use Rattle.pol_maltsev.specs.Orders.{InFront}
 use Rattle.pol_maltsev.specs.Tables.{SameRoot, IsLeastOf, step}
-use Rattle.pol_maltsev.specs.Swaps.{Sides, StayTogether, IsLateAt, LeadsTo, led}
+use Rattle.pol_maltsev.specs.Swaps.{Sides, StayTogether, IsLateAt, IsEarlyAt, IsLed, LeadsTo, led}
 use Rattle.pol_maltsev.specs.Views.{TableView, IsTableView, InTable, IsSoundTable, IsMade, sides_at, row_in}
 use Rattle.pol_maltsev.proofs.TupleLemmas.{value_below, image_tuple}
-use Rattle.pol_maltsev.proofs.SwapLemmas.{IsSwap, leads, leads_back}
+use Rattle.pol_maltsev.proofs.SwapLemmas.{IsSwap, leads, leads_back, finds}
 use Rattle.pol_maltsev.proofs.OrderLemmas.{swap_of}
 use Rattle.pol_maltsev.proofs.SetLemmas.{set_preserved, row_tuple}
 
@@ -135,3 +135,38 @@ least_stays f s c q least none so_far = record { leads = so_far.leads; first = �
     at u u_low h (inl e) = absurd (none (rw e at h))
     at u u_low h (inr (inl e)) = so_far.first u e h
     at u u_low h (inr (inr e)) = absurd (omega (arith, e, u_low))
+
+-- the row and the root of a value at the place that comes earlier
+pub early_made : (f : Operation) (k c root : ℕ) (v : TableView) (row : List ℕ) → IsSoundTable f v → k + 1 < v.width → c < v.domain → (sides_at v k).cy c < v.domain → IsTuple v.domain v.width row →
+    IsLeastOf v.domain (LeadsTo f (sides_at v k) c) root → (SameRoot v.domain (sides_at v k).cy root c → row ≡ (sides_at v k).ry c) → (¬ SameRoot v.domain (sides_at v k).cy root c → IsLed f v.width (sides_at v k) root c row) →
+    IsMade (IsEarlyAt f v.width (sides_at v k)) v.domain v.width c row root
+early_made f k c root v row is low c_low there tuple least kept moved = record {
+  tuple = tuple;
+  most = omega (arith, least.below);
+  holds = record {
+    gone = λ _. rw is.same_domain at there;
+    chosen = λ _. rw is.same_domain at least;
+    kept = λ _ same. kept (rw is.same_domain same);
+    moved = λ _ none. moved (λ same. none (rw is.same_domain at same));
+  };
+}
+
+-- and of a value that no member has
+pub early_none : (f : Operation) (k c : ℕ) (v : TableView) → IsSoundTable f v → k + 1 < v.width → c < v.domain → (sides_at v k).cy c ≡ v.domain →
+    IsMade (IsEarlyAt f v.width (sides_at v k)) v.domain v.width c ((sides_at v k).ry c) v.domain
+early_none f k c v is low c_low none = record {
+  tuple = row_tuple v (sides_at v k).y c is.view (is.view.below (k + 1) 0 (omega (arith, is.view.ordered, low))) c_low;
+  most = omega arith;
+  holds = record {
+    gone = λ h. absurd (omega (arith, h, is.same_domain));
+    chosen = λ h. absurd (omega (arith, h, none, is.same_domain));
+    kept = λ h. absurd (omega (arith, h, none, is.same_domain));
+    moved = λ h. absurd (omega (arith, h, none, is.same_domain));
+  };
+}
+
+-- a least root leads back
+pub leads_from_root : (f : Operation) (k c root : ℕ) (v : TableView) → IsSoundTable f v → k + 1 < v.width → c < v.domain → (sides_at v k).cy c < v.domain → IsLeastOf v.domain (LeadsTo f (sides_at v k) c) root →
+    LeadsTo f (sides_at v k) root ((sides_at v k).cy c)
+leads_from_root f k c root v is low c_low there least =
+    finds f v.width (InTable f v) (InFront v.order k) (sides_at v k) c root (before_swap f k v is low) (rw is.same_domain at c_low) (rw is.same_domain at there) least.holds

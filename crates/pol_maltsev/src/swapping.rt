@@ -1,5 +1,7 @@
 ghost use Rattle.std.specs.Prelude.{◌≡◌, ◌↔◌, ℕ, ◌<◌, ◌≤◌, ◌+◌, length, slice_index, IsTrue, IfOk, OnOk, OnErr};
-ghost use Rattle.pol_maltsev.specs.Tables.{IsLeastOf};
+ghost use Rattle.pol_base.specs.Tuples.{IsTuple};
+ghost use Rattle.pol_optable.specs.Tables.{IsOpTable};
+ghost use Rattle.pol_maltsev.specs.Tables.{IsLeastOf, SameRoot};
 ghost use Rattle.pol_maltsev.specs.Swaps.{StayTogether, LeadsTo, led, IsLateAt, IsEarlyAt, IsLed, IsWay};
 ghost use Rattle.pol_maltsev.specs.Views.{AreClasses, AreMade, IsMade, IsSoundTable, IsReplaced, HaveOneShape, HaveOneSet, root_in, sides_at};
 
@@ -145,5 +147,80 @@ impl Table {
         }
         // not reached: some value is such
         0
+    }
+}
+
+impl Table {
+    /// The row of `c` at the place at position `k + 1`, where it comes before the other: its own where its
+    /// class has `b`, and else one that is made of the row of `b`.
+    fn early_row(
+        &self,
+        alloc: Global,
+        op: &OpTable<3>,
+        k: u32,
+        b: u8,
+        c: u8,
+    ) -> Result<Row, NoMemory>
+        requires table { IsOpTable 3 op.now }
+        requires domain { self.now.domain ≡ op.now.domain }
+        requires position { k + 1 < self.now.width }
+        requires from { b < self.now.domain }
+        requires to { c < self.now.domain }
+        requires present { (sides_at self.now k).cy c < self.now.domain }
+        requires leads { LeadsTo op.now (sides_at self.now k) b ((sides_at self.now k).cy c) }
+        ensures tuple { IfOk result (IsTuple self.now.domain self.now.width) }
+        ensures kept { SameRoot self.now.domain (sides_at self.now k).cy b c
+            → IfOk result (λ r. r ≡ (sides_at self.now k).ry c) }
+        ensures moved { ¬ SameRoot self.now.domain (sides_at self.now k).cy b c
+            → IfOk result (IsLed op.now self.now.width (sides_at self.now k) b c) }
+    {
+        let x = self.place(k);
+        let y = self.place(k + 1);
+        if self.same(y, b, c) {
+            return Row::from_slice(alloc, self.row(y, c));
+        }
+        let row = self.row(y, b);
+        let q = self.way(op, k, b, c);
+        let led = Row::image(alloc, op, row, self.row(x, row[x as usize]), self.row(x, q))?;
+        self.step(alloc, op, y, led.as_slice(), c)
+    }
+
+    /// The row and the root of a value of the place at position `k + 1`, where it comes before the other.
+    fn early_value(
+        &self,
+        alloc: Global,
+        op: &OpTable<3>,
+        k: u32,
+        c: u8,
+    ) -> Result<(Row, u8), NoMemory>
+        requires sound { IsSoundTable op.now self.now }
+        requires position { k + 1 < self.now.width }
+        requires value { c < self.now.domain }
+        ensures made { IfOk result (λ m. IsMade (IsEarlyAt op.now self.now.width (sides_at self.now k))
+            self.now.domain self.now.width c m.0 m.1) }
+    {
+        let y = self.place(k + 1);
+        let d = self.domain().size();
+        if self.root(y, c) == d {
+            return Ok((Row::from_slice(alloc, self.row(y, c))?, d));
+        }
+        let root = self.early_root(op, k, c);
+        let row = self.early_row(alloc, op, k, root, c)?;
+        Ok((row, root))
+    }
+
+    /// The classes of the place at position `k + 1`, where it comes before the other.
+    fn early(&self, alloc: Global, op: &OpTable<3>, k: u32) -> Result<ValueClasses, NoMemory>
+        requires sound { IsSoundTable op.now self.now }
+        requires position { k + 1 < self.now.width }
+        ensures made { IfOk result (λ m. AreMade (IsEarlyAt op.now self.now.width (sides_at self.now k))
+            self.now.domain self.now.width self.now.domain m) }
+    {
+        let mut made = ValueClasses::new(alloc);
+        for c in 0..self.domain().size() {
+            let (row, root) = self.early_value(alloc, op, k, c)?;
+            made.push(row, root)?;
+        }
+        Ok(made)
     }
 }

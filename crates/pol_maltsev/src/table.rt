@@ -1,5 +1,6 @@
 ghost use Rattle.std.specs.Prelude.{◌≡◌, ◌↔◌, ℕ, ◌<◌, ◌≤◌, length, slice_index, IsTrue, IfOk};
 ghost use Rattle.pol_base.specs.Tuples.{IsTuple};
+ghost use Rattle.pol_optable.specs.Tables.{IsOpTable};
 ghost use Rattle.pol_maltsev.specs.Tables.{SameRoot, step};
 ghost use Rattle.pol_maltsev.specs.Views.{TableView, IsTableView, row_in, root_in};
 
@@ -102,10 +103,12 @@ impl Table {
         t: &[u8],
         v: u8,
     ) -> Result<Row, NoMemory>
+        requires table { IsOpTable 3 op.now }
         requires domain { self.now.domain ≡ op.now.domain }
         requires place { p < self.now.width }
         requires tuple { IsTuple self.now.domain self.now.width t.now }
         requires value { v < self.now.domain }
+        ensures tuple { IfOk result (IsTuple self.now.domain self.now.width) }
         ensures step { IfOk result (λ r. r ≡ step op.now self.now.width p (row_in self.now p) t.now v) }
     {
         let from = t[p as usize];
