@@ -1,10 +1,10 @@
 -- Classes that are made value by value.
-use Rattle.std.proofs.Common.{◌≡◌, ℕ, ◌<◌, ◌≤◌, ◌+◌, List, [], ◌∷◌, ◌++◌, length, length-append, get_or, arith, sym, refl, ap, ◌∙◌, ◌⊎◌, inl, inr}
+use Rattle.std.proofs.Common.{◌≡◌, ℕ, ◌<◌, ◌≤◌, ◌+◌, List, [], ◌∷◌, ◌++◌, length-append, get_or, arith, sym, refl, ◌∙◌, ◌⊎◌, inl, inr}
 use Rattle.std.proofs.lemmas.Bool.{cases_order}
 use Rattle.std.proofs.lemmas.List.{get_or_append_left, get_or_at}
 use Rattle.std.proofs.lemmas.List.Elements.{All-nil, All-push}
 use Rattle.pol_base.specs.Tuples.{IsTuple}
-use Rattle.pol_maltsev.specs.Views.{ClassesView, no_classes, row_of, root_of, AreClasses, AreMade, IsMade, with_value}
+use Rattle.pol_maltsev.specs.Views.{ClassesView, no_classes, AreClasses, AreMade, IsMade, with_value}
 
 -- of no value
 pub made_none : (P : ℕ → List ℕ → ℕ → Type 0) (d n : ℕ) → AreMade P d n 0 no_classes

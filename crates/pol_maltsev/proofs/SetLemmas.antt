@@ -1,8 +1,8 @@
 -- The set that a table stands for.
-use Rattle.std.proofs.Common.{◌≡◌, ℕ, ◌<◌, ◌≤◌, ◌+◌, List, [], ◌∷◌, All, arith, sym, ap, ◌↔◌, ◌∙◌}
-use Rattle.std.specs.Prelude.{slice_index, length}
+use Rattle.std.proofs.Common.{◌≡◌, ℕ, ◌<◌, ◌≤◌, ◌+◌, List, [], arith, ◌↔◌, ◌∙◌}
+use Rattle.std.specs.Prelude.{slice_index}
 use Rattle.pol_base.specs.Tuples.{IsTuple}
-use Rattle.pol_optable.specs.Operations.{Operation, image}
+use Rattle.pol_optable.specs.Operations.{Operation}
 use Rattle.pol_optable.specs.Tables.{IsOpTable}
 use Rattle.pol_optable.specs.Identities.{IsMaltsev}
 use Rattle.pol_maltsev.specs.Representations.{IsPreserved}

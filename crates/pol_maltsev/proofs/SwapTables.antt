@@ -1,5 +1,9 @@
 -- What is made of a table in a swap.
-use Rattle.std.proofs.Common.{◌≡◌, ℕ, ◌<◌, ◌≤◌, ◌+◌, List, [], ◌∷◌, refl, arith, Bool, true, false, eqb, cond, ◌⊎◌, inl, inr, min}
+use Rattle.std.proofs.Common.{◌≡◌, ℕ, ◌<◌, ◌≤◌, ◌+◌, List, [], ◌∷◌, refl, ap, sym, subst, ◌∙◌, arith, Bool, true, false, eqb, cond, ◌⊎◌, inl, inr, min}
+use Rattle.std.specs.Prelude.{◌≢◌}
+use Rattle.std.proofs.Math.ListN.{set}
+use Rattle.std.proofs.lemmas.List.{length-set, get_or-set_same, get_or-set_other}
+use Rattle.std.proofs.lemmas.List.Elements.{All-set}
 use Rattle.std.proofs.lemmas.Bool.{cases_order, cases_lt}
 use Rattle.std.specs.Prelude.{slice_index}
 use Rattle.pol_base.specs.Tuples.{IsTuple}
@@ -7,8 +11,8 @@ use Rattle.pol_optable.specs.Operations.{Operation, image}
 use Rattle.pol_optable.specs.Tables.{IsOpTable}
 use Rattle.pol_maltsev.specs.Orders.{InFront}
 use Rattle.pol_maltsev.specs.Tables.{SameRoot, IsLeastOf, step}
-use Rattle.pol_maltsev.specs.Swaps.{Sides, StayTogether, IsLateAt, IsEarlyAt, IsLed, LeadsTo, led}
-use Rattle.pol_maltsev.specs.Views.{TableView, IsTableView, InTable, IsSoundTable, IsMade, sides_at, row_in}
+use Rattle.pol_maltsev.specs.Swaps.{Sides, StayTogether, IsLateAt, IsEarlyAt, IsMadeX, IsMadeY, IsLed, LeadsTo, led}
+use Rattle.pol_maltsev.specs.Views.{TableView, IsTableView, InTable, IsSoundTable, IsMade, AreMade, IsReplaced, IsSwappedView, ClassesView, AreClasses, no_classes, row_of, root_of, sides_at, row_in}
 use Rattle.pol_maltsev.proofs.TupleLemmas.{value_below, image_tuple}
 use Rattle.pol_maltsev.proofs.SwapLemmas.{IsSwap, leads, leads_back, finds}
 use Rattle.pol_maltsev.proofs.OrderLemmas.{swap_of}
@@ -170,3 +174,88 @@ pub leads_from_root : (f : Operation) (k c root : ℕ) (v : TableView) → IsSou
     LeadsTo f (sides_at v k) root ((sides_at v k).cy c)
 leads_from_root f k c root v is low c_low there least =
     finds f v.width (InTable f v) (InFront v.order k) (sides_at v k) c root (before_swap f k v is low) (rw is.same_domain at c_low) (rw is.same_domain at there) least.holds
+
+-- what the classes say that were made value by value
+made_late : (f : Operation) (n : ℕ) (s : Sides) (d : ℕ) (c : ClassesView) → d ≡ f.domain → AreMade (IsLateAt f n s) d n d c → IsMadeX f n s (row_of c) (root_of c)
+made_late f n s d c same made = record {
+  gone = λ a low h. (made.each a (rw same low)).gone h;
+  chosen = λ a low h. (made.each a (rw same low)).chosen h;
+  moved = λ a low h. (made.each a (rw same low)).moved h;
+}
+
+made_early : (f : Operation) (n : ℕ) (s : Sides) (d : ℕ) (c : ClassesView) → d ≡ f.domain → AreMade (IsEarlyAt f n s) d n d c → IsMadeY f n s (row_of c) (root_of c)
+made_early f n s d c same made = record {
+  gone = λ a low h. (made.each a (rw same low)).gone h;
+  chosen = λ a low h. (made.each a (rw same low)).chosen h;
+  kept = λ a low h. (made.each a (rw same low)).kept h;
+  moved = λ a low h. (made.each a (rw same low)).moved h;
+}
+
+-- the table after a swap
+pub swapped_view : (f : Operation) (k : ℕ) (late early : ClassesView) (old new : TableView) → IsSoundTable f old → AreMade (IsLateAt f old.width (sides_at old k)) old.domain old.width old.domain late → AreMade (IsEarlyAt f old.width (sides_at old k)) old.domain old.width old.domain early →
+    IsReplaced k late early old new → IsSwappedView f k old new
+swapped_view f k late early old new is made made' r = record {
+  order = r.order;
+  at_x = subst (λ c. IsMadeX f old.width (sides_at old k) (row_of c) (root_of c)) (sym r.late_is) (made_late f old.width (sides_at old k) old.domain late is.same_domain made);
+  at_y = subst (λ c. IsMadeY f old.width (sides_at old k) (row_of c) (root_of c)) (sym r.early_is) (made_early f old.width (sides_at old k) old.domain early is.same_domain made');
+  same_rows = λ p a _ _ e e'. ap (λ c. row_of c a) (r.others p e e');
+  same_roots = λ p a _ _ e e'. ap (λ c. root_of c a) (r.others p e e');
+}
+
+-- the table with classes in the place of those at positions k and k + 1, which change their order
+abbrev pub replaced : TableView → ℕ → ClassesView → ClassesView → TableView
+replaced v k late early = record {
+  domain = v.domain;
+  width = v.width;
+  order = set (set v.order k (slice_index v.order (k + 1))) (k + 1) (slice_index v.order k);
+  places = set (set v.places (slice_index v.order k) late) (slice_index v.order (k + 1)) early;
+}
+
+pub replaced_view : (v : TableView) (k : ℕ) (late early : ClassesView) → IsTableView v → k + 1 < v.width → AreClasses v.domain v.width late → AreClasses v.domain v.width early → IsTableView (replaced v k late early)
+replaced_view v k late early view low is is' = record {
+  domain_is = view.domain_is;
+  some_places = view.some_places;
+  few_places = view.few_places;
+  ordered = length-set (set v.order k y) (k + 1) x ∙ length-set v.order k y ∙ view.ordered;
+  below = All-set (λ p. p < v.width) (set v.order k y) (k + 1) x x_low (All-set (λ p. p < v.width) v.order k y y_low view.below);
+  all_places = length-set (set v.places x late) y early ∙ length-set v.places x late ∙ view.all_places;
+  classes = All-set (AreClasses v.domain v.width) (set v.places x late) y early is' (All-set (AreClasses v.domain v.width) v.places x late is view.classes);
+}
+  where
+    x : ℕ
+    x = slice_index v.order k
+
+    y : ℕ
+    y = slice_index v.order (k + 1)
+
+    x_low : x < v.width
+    x_low = view.below k 0 (omega (arith, view.ordered, low))
+
+    y_low : y < v.width
+    y_low = view.below (k + 1) 0 (omega (arith, view.ordered, low))
+
+pub replaced_is : (v : TableView) (k : ℕ) (late early : ClassesView) → IsTableView v → k + 1 < v.width → slice_index v.order k ≢ slice_index v.order (k + 1) → IsReplaced k late early v (replaced v k late early)
+replaced_is v k late early view low apart = record {
+  shape = record { domain = refl; width = refl };
+  order = record {
+    long = length-set (set v.order k y) (k + 1) x ∙ length-set v.order k y;
+    first = get_or-set_other (set v.order k y) (k + 1) k x 0 (λ e. absurd (omega (arith, e))) ∙ get_or-set_same v.order k y 0 (omega (arith, view.ordered, low));
+    second = get_or-set_same (set v.order k y) (k + 1) x 0 (omega (arith, length-set v.order k y, view.ordered, low));
+    others = λ i e e'. get_or-set_other (set v.order k y) (k + 1) i x 0 e' ∙ get_or-set_other v.order k i y 0 e;
+  };
+  late_is = get_or-set_other (set v.places x late) y x early no_classes apart ∙ get_or-set_same v.places x late no_classes (omega (arith, view.all_places, x_low));
+  early_is = get_or-set_same (set v.places x late) y early no_classes (omega (arith, length-set v.places x late, view.all_places, y_low));
+  others = λ p e e'. get_or-set_other (set v.places x late) y p early no_classes e' ∙ get_or-set_other v.places x p late no_classes e;
+}
+  where
+    x : ℕ
+    x = slice_index v.order k
+
+    y : ℕ
+    y = slice_index v.order (k + 1)
+
+    x_low : x < v.width
+    x_low = view.below k 0 (omega (arith, view.ordered, low))
+
+    y_low : y < v.width
+    y_low = view.below (k + 1) 0 (omega (arith, view.ordered, low))

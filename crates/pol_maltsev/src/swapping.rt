@@ -1,9 +1,10 @@
-ghost use Rattle.std.specs.Prelude.{◌≡◌, ◌↔◌, ℕ, ◌<◌, ◌≤◌, ◌+◌, length, slice_index, IsTrue, IfOk, OnOk, OnErr};
+ghost use Rattle.std.specs.Prelude.{◌≡◌, ◌≢◌, ◌↔◌, ℕ, ◌<◌, ◌≤◌, ◌+◌, length, slice_index, IsTrue, IfOk, OnOk, OnErr};
 ghost use Rattle.pol_base.specs.Tuples.{IsTuple};
 ghost use Rattle.pol_optable.specs.Tables.{IsOpTable};
+ghost use Rattle.pol_maltsev.specs.Orders.{IsSwapped};
 ghost use Rattle.pol_maltsev.specs.Tables.{IsLeastOf, SameRoot};
 ghost use Rattle.pol_maltsev.specs.Swaps.{StayTogether, LeadsTo, led, IsLateAt, IsEarlyAt, IsLed, IsWay};
-ghost use Rattle.pol_maltsev.specs.Views.{AreClasses, AreMade, IsMade, IsSoundTable, IsReplaced, HaveOneShape, HaveOneSet, root_in, sides_at};
+ghost use Rattle.pol_maltsev.specs.Views.{AreClasses, AreMade, IsMade, IsSoundTable, IsTableView, IsReplaced, HaveOneShape, HaveOneSet, root_in, sides_at};
 
 use crate::classes::ValueClasses;
 use crate::row::Row;
@@ -222,5 +223,40 @@ impl Table {
             made.push(row, root)?;
         }
         Ok(made)
+    }
+}
+
+impl Table {
+    #[tactic(auto, using(crate::proofs::SwapTables::replaced_view, crate::proofs::SwapTables::replaced_is))]
+    /// Puts classes in the place of those at positions `k` and `k + 1`, and changes the order of both.
+    fn replace(&mut self, k: u32, late: ValueClasses, early: ValueClasses)
+        requires position { k + 1 < self.old.width }
+        requires apart { slice_index self.old.order k ≢ slice_index self.old.order (k + 1) }
+        requires late { AreClasses self.old.domain self.old.width late }
+        requires early { AreClasses self.old.domain self.old.width early }
+        ensures replaced { IsReplaced k late early self.old self.new }
+        ensures view { IsTableView self.new }
+    {
+        let x = self.place(k);
+        let y = self.place(k + 1);
+        self.places[x as usize] = late;
+        self.places[y as usize] = early;
+        self.order[k as usize] = y;
+        self.order[k as usize + 1] = x;
+    }
+
+    /// The same set, where the places at positions `k` and `k + 1` change their order.
+    pub(crate) fn swap(&mut self, alloc: Global, op: &OpTable<3>, k: u32) -> Result<(), NoMemory>
+        requires sound { IsSoundTable op.now self.old }
+        requires position { k + 1 < self.old.width }
+        ensures shape { HaveOneShape self.old self.new }
+        ensures sound { IsSoundTable op.now self.new }
+        ensures set { HaveOneSet op.now self.old self.new }
+        ensures order { OnOk result (IsSwapped k self.old.order self.new.order) }
+    {
+        let late = self.late(alloc, op, k)?;
+        let early = self.early(alloc, op, k)?;
+        self.replace(k, late, early);
+        Ok(())
     }
 }

@@ -1,9 +1,9 @@
-use Rattle.std.proofs.Common.{◌≡◌, ℕ, ◌<◌, ◌↔◌, sym, ◌∙◌, arith, IsTrue}
+use Rattle.std.proofs.Common.{◌≡◌, ◌<◌, ◌↔◌, sym, ◌∙◌, arith, IsTrue}
 use Rattle.std.proofs.lemmas.Bool.{false≢true}
 use Rattle.std.specs.Prelude.{slice_index, min}
 use Rattle.pol_maltsev.specs.Tables.{SameRoot}
 use Rattle.pol_maltsev.specs.Swaps.{led}
-use Rattle.pol_maltsev.specs.Views.{sides_at, root_in}
+use Rattle.pol_maltsev.specs.Views.{sides_at}
 use Rattle.pol_maltsev.proofs.SwapTables.{least_none, least_more, least_stays, least_led}
 use Rattle.pol_maltsev.proofs.table.Table.early_root.Goals as goal
 use Rattle.pol_maltsev.proofs.table.Table.early_root.Goals.{then-same, else-same}

@@ -1,6 +1,6 @@
-use Rattle.std.proofs.Common.{◌≡◌, ◌<◌, ℕ, arith}
+use Rattle.std.proofs.Common.{◌≡◌, ◌<◌, arith}
 use Rattle.pol_maltsev.specs.Views.{sides_at}
-use Rattle.pol_maltsev.proofs.SwapTables.{leads_from_root, early_made}
+use Rattle.pol_maltsev.proofs.SwapTables.{leads_from_root}
 use Rattle.pol_maltsev.proofs.table.Table.early_value.Goals as goal
 
 -- the root leads back to the old one
