@@ -1,0 +1,4 @@
+pub mod FlatLemmas
+pub mod OrderLemmas
+pub mod RunLemmas
+pub mod PairLemmas
