@@ -6,7 +6,7 @@ use Rattle.pol_optable.specs.Operations.{Operation, image}
 use Rattle.pol_optable.specs.Identities.{IsMaltsev}
 use Rattle.pol_maltsev.specs.Representations.{IsPreserved, Follows, InClosure, Represents}
 use Rattle.pol_optable.specs.Tables.{IsOpTable}
-use Rattle.pol_maltsev.specs.Signatures.{InSignature}
+use Rattle.pol_rows.specs.Signatures.{InSignature}
 use Rattle.pol_maltsev.specs.Representations.InClosure.{given, made}
 use Rattle.pol_maltsev.proofs.TupleLemmas.{same_front, front_at, same_tuple, value_below, length-image, value-image, image_tuple}
 use Rattle.std.proofs.lemmas.List.{take_more_same}

@@ -5,7 +5,7 @@ use Rattle.std.proofs.lemmas.List.Elements.{Contains-get_or}
 use Rattle.pol_optable.specs.Operations.{Operation}
 use Rattle.pol_optable.specs.Identities.{IsMaltsev}
 use Rattle.pol_maltsev.specs.Representations.{IsPreserved, Represents, InClosure, IsSound}
-use Rattle.pol_maltsev.specs.Signatures.{InSignature, IsSignatureSize}
+use Rattle.pol_rows.specs.Signatures.{InSignature, IsSignatureSize}
 use Rattle.pol_maltsev.specs.Representations.InClosure.{given}
 use Rattle.pol_maltsev.proofs.ClosureLemmas.{closure_within, closure_is_set}
 use Rattle.std.proofs.lemmas.Bool.Decides.{Decides-like}

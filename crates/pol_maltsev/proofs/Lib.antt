@@ -11,3 +11,4 @@ pub mod NextLemmas
 pub mod SetLemmas
 pub mod SwapTables
 pub mod MadeLemmas
+pub mod FullLemmas

@@ -7,7 +7,7 @@ use Rattle.pol_optable.specs.Operations.{Operation, image}
 use Rattle.pol_base.specs.Tuples.{IsTuple}
 use Rattle.pol_optable.specs.Identities.{IsMaltsev}
 use Rattle.pol_maltsev.specs.Representations.{IsPreserved}
-use Rattle.pol_maltsev.specs.Signatures.{InSignature}
+use Rattle.pol_rows.specs.Signatures.{InSignature}
 use Rattle.pol_maltsev.specs.Tables.{Agree, Also, SameRoot, IsKnown, step, IsMoved, AreJoined, IsTable}
 use Rattle.pol_maltsev.specs.Orders.{IsOrder, InFront}
 use Rattle.pol_maltsev.specs.Restrictions.{AreValues, IsPart, IsMadeLate, HasListed, SharesBase, IsMadeEarly, IsCovered}

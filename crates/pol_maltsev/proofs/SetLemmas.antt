@@ -32,7 +32,7 @@ set_within f v T kept rows t (made q r s hq hr hs) =
     kept.keeps q r s (set_within f v T kept rows q hq) (set_within f v T kept rows r hr) (set_within f v T kept rows s hs)
 
 -- all tuples
-tuples_preserved : (f : Operation) (n : ℕ) → IsOpTable 3 f → IsPreserved f n (IsTuple f.domain n)
+pub tuples_preserved : (f : Operation) (n : ℕ) → IsOpTable 3 f → IsPreserved f n (IsTuple f.domain n)
 tuples_preserved f n is = record { tuples = λ t h. h; keeps = λ r s t hr hs ht. image_tuple f n r s t is hr hs ht }
 
 -- the set is preserved

@@ -8,7 +8,7 @@ use Rattle.pol_base.specs.Tuples.{IsTuple}
 use Rattle.pol_relation.specs.Instances.{read_at}
 use Rattle.pol_optable.specs.Identities.{IsMaltsev}
 use Rattle.pol_maltsev.specs.Representations.{IsPreserved, Represents, ReadsRow, InClosure}
-use Rattle.pol_maltsev.specs.Signatures.{InSignature, IsSignatureSize, count_triples}
+use Rattle.pol_rows.specs.Signatures.{InSignature, IsSignatureSize, count_triples}
 use Rattle.pol_maltsev.specs.Representations.InClosure.{given as of_rows}
 use Rattle.pol_maltsev.specs.Tables.{Agree, Also, SameRoot, IsKnown, AreJoined, IsMoved, IsTable, ListsTable}
 use Rattle.pol_maltsev.specs.Orders.{InFront}

@@ -1,7 +1,7 @@
 -- What a table is made of rows that represent a set.
 use Rattle.std.specs.Prelude.{◌≡◌, ◌<◌, ℕ, List, [], ◌∷◌, slice_index, Contains}
 use Rattle.pol_optable.specs.Operations.{Operation, image}
-use Rattle.pol_maltsev.specs.Signatures.{InSignature}
+use Rattle.pol_rows.specs.Signatures.{InSignature}
 use Rattle.pol_maltsev.specs.Tables.{IsLeastOf}
 
 -- u is made of w and a pair of rows that agree before i and have b and a there

@@ -1,4 +1,3 @@
-pub mod Signatures
 pub mod Representations
 pub mod Orders
 pub mod Tables

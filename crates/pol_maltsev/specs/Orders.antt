@@ -25,3 +25,8 @@ pub record IsSwapped (k : ℕ) (old new : List ℕ) : Type 0 where
 pub record IsFrontScope (ord scope : List ℕ) (q : ℕ) : Type 0 where
   pub within : (e : ℕ) → e < length scope → InFront ord q (slice_index scope e)
   pub meets : (i : ℕ) → i < q → InFront scope (length scope) (slice_index ord i)
+
+-- the places in ascending order
+pub record IsNatural (n : ℕ) (ord : List ℕ) : Type 0 where
+  pub long : length ord ≡ n
+  pub itself : (k : ℕ) → k < n → slice_index ord k ≡ k

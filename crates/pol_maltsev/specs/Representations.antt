@@ -4,7 +4,7 @@ use Rattle.pol_base.specs.Tuples.{IsTuple}
 use Rattle.pol_relation.specs.Relations.{LanguageView}
 use Rattle.pol_relation.specs.Instances.{InstanceView, read_at, Meets}
 use Rattle.pol_optable.specs.Operations.{Operation, image}
-use Rattle.pol_maltsev.specs.Signatures.{InSignature, IsSignatureSize}
+use Rattle.pol_rows.specs.Signatures.{InSignature, IsSignatureSize}
 
 -- a set of n-tuples on the domain of a ternary operation, which the operation preserves
 pub record IsPreserved (f : Operation) (n : ℕ) (T : List ℕ → Type 0) : Type 0 where

@@ -1,5 +1,5 @@
 -- How tables are seen, and the set of tuples that one stands for.
-use Rattle.std.specs.Prelude.{◌≡◌, ◌<◌, ◌≤◌, ◌+◌, ◌↔◌, ◌≢◌, ◌++◌, ℕ, List, [], ◌∷◌, length, slice_index, slice_index_or, All}
+use Rattle.std.specs.Prelude.{◌≡◌, ◌<◌, ◌≤◌, ◌+◌, ◌↔◌, ◌≢◌, ◌++◌, ℕ, List, [], ◌∷◌, length, slice_index, slice_index_or, slice_set, replicate, All}
 use Rattle.pol_base.specs.Tuples.{IsDomain, IsTuple}
 use Rattle.pol_optable.specs.Operations.{Operation, image}
 use Rattle.pol_optable.specs.Tables.{IsOpTable}
@@ -118,3 +118,12 @@ pub record IsReplaced (k : ℕ) (late early : ClassesView) (old new : TableView)
   pub late_is : classes_at new (slice_index old.order k) ≡ late
   pub early_is : classes_at new (slice_index old.order (k + 1)) ≡ early
   pub others : (p : ℕ) → p ≢ slice_index old.order k → p ≢ slice_index old.order (k + 1) → classes_at new p ≡ classes_at old p
+
+-- for a value at place p of n: the row that has it there and 0 elsewhere, and the root 0
+pub record IsFullAt (n p a : ℕ) (row : List ℕ) (root : ℕ) : Type 0 where
+  pub row_is : row ≡ slice_set (replicate n 0) p a
+  pub root_is : root ≡ 0
+
+-- such rows and roots for each value at each place
+abbrev pub IsFull : TableView → Type 0
+IsFull v = (p : ℕ) → p < v.width → AreMade (IsFullAt v.width p) v.domain v.width v.domain (classes_at v p)

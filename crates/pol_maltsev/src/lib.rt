@@ -3,6 +3,7 @@
 #![tactic(auto)]
 
 mod classes;
+mod full;
 mod row;
 mod swapping;
 mod table;

@@ -1,4 +1,4 @@
-ghost use Rattle.std.specs.Prelude.{◌≡◌, ℕ, List, [], ◌∷◌, length, IfOk};
+ghost use Rattle.std.specs.Prelude.{◌≡◌, ℕ, List, [], ◌∷◌, ◌<◌, length, slice_set, replicate, IfOk};
 ghost use Rattle.pol_base.specs.Tuples.{IsTuple};
 ghost use Rattle.pol_optable.specs.Operations.{image};
 
@@ -38,6 +38,16 @@ impl Row {
         Ok(Row {
             values: Vec::from_slice(alloc, values)?,
         })
+    }
+
+    /// The value at one place, and 0 at the others.
+    pub(crate) fn unit(alloc: Global, n: u32, p: u32, a: u8) -> Result<Row, NoMemory>
+        requires place { p < n }
+        ensures unit { IfOk result (λ r. r ≡ slice_set (replicate n 0) p a) }
+    {
+        let mut values = vec![in alloc; 0u8; n as usize]?;
+        values[p as usize] = a;
+        Ok(Row { values })
     }
 
     /// What the operation makes of three tuples.
