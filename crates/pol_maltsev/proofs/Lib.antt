@@ -12,3 +12,4 @@ pub mod SetLemmas
 pub mod SwapTables
 pub mod MadeLemmas
 pub mod FullLemmas
+pub mod ReorderLemmas

@@ -5,3 +5,4 @@ pub mod Swaps
 pub mod Restrictions
 pub mod FromRows
 pub mod Views
+pub mod Compacts

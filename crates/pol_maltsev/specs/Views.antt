@@ -127,3 +127,10 @@ pub record IsFullAt (n p a : ℕ) (row : List ℕ) (root : ℕ) : Type 0 where
 -- such rows and roots for each value at each place
 abbrev pub IsFull : TableView → Type 0
 IsFull v = (p : ℕ) → p < v.width → AreMade (IsFullAt v.width p) v.domain v.width v.domain (classes_at v p)
+
+-- the same set in another order, where the first places have stayed
+pub record IsReordered (f : Operation) (stayed : ℕ) (old new : TableView) : Type 0 where
+  pub shape : HaveOneShape old new
+  pub sound : IsSoundTable f new
+  pub set : HaveOneSet f old new
+  pub before : (i : ℕ) → i < stayed → slice_index new.order i ≡ slice_index old.order i

@@ -4,6 +4,7 @@
 
 mod classes;
 mod full;
+mod ordering;
 mod row;
 mod swapping;
 mod table;

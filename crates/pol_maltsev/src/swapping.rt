@@ -253,6 +253,7 @@ impl Table {
         ensures sound { IsSoundTable op.now self.new }
         ensures set { HaveOneSet op.now self.old self.new }
         ensures order { OnOk result (IsSwapped k self.old.order self.new.order) }
+        ensures err { OnErr result (self.new ≡ self.old) }
     {
         let late = self.late(alloc, op, k)?;
         let early = self.early(alloc, op, k)?;
