@@ -30,3 +30,7 @@ pub record IsFrontScope (ord scope : List ℕ) (q : ℕ) : Type 0 where
 pub record IsNatural (n : ℕ) (ord : List ℕ) : Type 0 where
   pub long : length ord ≡ n
   pub itself : (k : ℕ) → k < n → slice_index ord k ≡ k
+
+-- the places stand first in the order, as they are listed
+abbrev pub AreFirst : List ℕ → List ℕ → Type 0
+AreFirst places ord = (k : ℕ) → k < length places → slice_index ord k ≡ slice_index places k

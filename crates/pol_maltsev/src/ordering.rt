@@ -1,5 +1,5 @@
 ghost use Rattle.std.specs.Prelude.{◌≡◌, ◌≢◌, ℕ, ◌<◌, ◌≤◌, length, slice_index, All, AllPairs, OnOk};
-ghost use Rattle.pol_maltsev.specs.Orders.{InFront};
+ghost use Rattle.pol_maltsev.specs.Orders.{AreFirst, InFront};
 ghost use Rattle.pol_maltsev.specs.Views.{IsReordered, IsSoundTable};
 
 use crate::table::Table;
@@ -35,6 +35,27 @@ impl Table {
         while to < k {
             self.swap(alloc, op, k - 1)?;
             k -= 1;
+        }
+        Ok(())
+    }
+
+    /// Brings different places to the front of the order, as they are listed.
+    pub(crate) fn to_front(
+        &mut self,
+        alloc: Global,
+        op: &OpTable<3>,
+        places: &[u32],
+    ) -> Result<(), NoMemory>
+        requires sound { IsSoundTable op.now self.old }
+        requires few { length places.now ≤ self.old.width }
+        requires below { All (λ p. p < self.old.width) places.now }
+        requires apart { AllPairs (λ p q. p ≢ q) places.now }
+        ensures reordered { IsReordered op.now 0 self.old self.new }
+        ensures front { OnOk result (AreFirst places.now self.new.order) }
+    {
+        let _width = self.width();
+        for (k, p) in places.iter().enumerate() {
+            self.bring(alloc, op, *p, k as u32)?;
         }
         Ok(())
     }
