@@ -13,3 +13,4 @@ pub mod SwapTables
 pub mod MadeLemmas
 pub mod FullLemmas
 pub mod ReorderLemmas
+pub mod WalkLemmas

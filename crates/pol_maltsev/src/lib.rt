@@ -8,3 +8,4 @@ mod ordering;
 mod row;
 mod swapping;
 mod table;
+mod walking;
