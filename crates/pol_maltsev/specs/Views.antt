@@ -1,6 +1,7 @@
 -- How tables are seen, and the set of tuples that one stands for.
-use Rattle.std.specs.Prelude.{◌≡◌, ◌<◌, ◌≤◌, ◌+◌, ◌↔◌, ◌≢◌, ◌++◌, ℕ, List, [], ◌∷◌, length, slice_index, slice_index_or, slice_set, replicate, All}
+use Rattle.std.specs.Prelude.{◌≡◌, ◌<◌, ◌≤◌, ◌+◌, ◌↔◌, ◌≢◌, ◌++◌, ℕ, List, [], ◌∷◌, length, slice_index, slice_index_or, slice_set, replicate, All, Bool, cond, ◌==◌, ◌&&◌, nat_lt}
 use Rattle.pol_base.specs.Tuples.{IsDomain, IsTuple}
+use Rattle.pol_rows.specs.Signatures.{sum_below}
 use Rattle.pol_optable.specs.Operations.{Operation, image}
 use Rattle.pol_optable.specs.Tables.{IsOpTable}
 use Rattle.pol_optable.specs.Identities.{IsMaltsev}
@@ -134,3 +135,11 @@ pub record IsReordered (f : Operation) (stayed : ℕ) (old new : TableView) : Ty
   pub sound : IsSoundTable f new
   pub set : HaveOneSet f old new
   pub before : (i : ℕ) → i < stayed → slice_index new.order i ≡ slice_index old.order i
+
+-- whether both values are in one class at the place
+abbrev pub same_in : TableView → ℕ → ℕ → ℕ → Bool
+same_in v p a b = (root_in v p a == root_in v p b) && nat_lt (root_in v p a) v.domain
+
+-- how many pairs of values are in one class at the place
+abbrev pub pairs_in : TableView → ℕ → ℕ
+pairs_in v p = sum_below v.domain (λ a. sum_below v.domain (λ b. cond (same_in v p a b) 1 0))

@@ -1,4 +1,4 @@
-ghost use Rattle.std.specs.Prelude.{◌≡◌, ◌↔◌, ◌<◌, length, IsTrue, OnOk};
+ghost use Rattle.std.specs.Prelude.{◌≡◌, ◌↔◌, ◌<◌, length, IsTrue, OnOk, ◌==◌, ◌&&◌, nat_lt};
 ghost use Rattle.pol_maltsev.specs.Tables.{SameRoot};
 ghost use Rattle.pol_maltsev.specs.Views.{no_classes, row_of, root_of, with_value};
 
@@ -61,6 +61,7 @@ impl ValueClasses {
         requires first { a < length self.now.roots }
         requires second { b < length self.now.roots }
         ensures same { IsTrue result ↔ SameRoot d (root_of self.now) a b }
+        ensures test { result ≡ ((root_of self.now a == root_of self.now b) && nat_lt (root_of self.now a) d) }
     {
         let root = self.root(a);
         root == self.root(b) && root < d.size()

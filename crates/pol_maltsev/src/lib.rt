@@ -6,6 +6,7 @@ mod classes;
 mod full;
 mod ordering;
 mod row;
+mod size;
 mod swapping;
 mod table;
 mod walking;

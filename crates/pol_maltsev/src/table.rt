@@ -2,7 +2,7 @@ ghost use Rattle.std.specs.Prelude.{◌≡◌, ◌↔◌, ℕ, ◌<◌, ◌≤�
 ghost use Rattle.pol_base.specs.Tuples.{IsTuple};
 ghost use Rattle.pol_optable.specs.Tables.{IsOpTable};
 ghost use Rattle.pol_maltsev.specs.Tables.{SameRoot, step};
-ghost use Rattle.pol_maltsev.specs.Views.{TableView, IsTableView, row_in, root_in};
+ghost use Rattle.pol_maltsev.specs.Views.{TableView, IsTableView, row_in, root_in, same_in};
 
 use crate::classes::ValueClasses;
 use crate::row::Row;
@@ -90,6 +90,7 @@ impl Table {
         requires first { a < self.now.domain }
         requires second { b < self.now.domain }
         ensures same { IsTrue result ↔ SameRoot self.now.domain (root_in self.now p) a b }
+        ensures test { result ≡ same_in self.now p a b }
     {
         self.places[p as usize].same(self.domain, a, b)
     }
