@@ -14,3 +14,4 @@ pub mod MadeLemmas
 pub mod FullLemmas
 pub mod ReorderLemmas
 pub mod WalkLemmas
+pub mod ReadingLemmas

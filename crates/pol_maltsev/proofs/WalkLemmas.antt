@@ -18,7 +18,7 @@ pub record IsWalking (f : Operation) (v : TableView) (word : List ℕ) (k : ℕ)
 reads_less : (f : Operation) (v : TableView) (word : List ℕ) (j k : ℕ) (t : List ℕ) → j ≤ k → IsReading (InTable f v) v.order word k t → IsReading (InTable f v) v.order word j t
 reads_less f v word j k t low h = record { inside = h.inside; reads = λ i i_low. h.reads i (omega (arith, i_low, low)) }
 
-member_tuple : (f : Operation) (v : TableView) (t : List ℕ) → IsSoundTable f v → InTable f v t → IsTuple v.domain v.width t
+pub member_tuple : (f : Operation) (v : TableView) (t : List ℕ) → IsSoundTable f v → InTable f v t → IsTuple v.domain v.width t
 member_tuple f v t is in_t = rw is.same_domain ((set_preserved f v is.operation is.same_domain is.view).tuples t in_t)
 
 -- the row of the first value

@@ -1,8 +1,9 @@
 -- What is made of a table where its set shrinks to the members that some first places decide.
-use Rattle.std.specs.Prelude.{◌≡◌, ◌<◌, ℕ, List, [], ◌∷◌, slice_index, All, Contains}
+use Rattle.std.specs.Prelude.{◌≡◌, ◌<◌, ℕ, List, [], ◌∷◌, slice_index, length, All, Contains}
 use Rattle.pol_relation.specs.Instances.{read_at}
 use Rattle.pol_optable.specs.Operations.{Operation, value_at}
 use Rattle.pol_maltsev.specs.Representations.{ReadsRow}
+use Rattle.pol_maltsev.specs.Orders.{InFront}
 use Rattle.pol_maltsev.specs.Tables.{Agree, SameRoot, IsLeastOf}
 
 -- a member whose values at the first k places of the order are those of a word
@@ -69,3 +70,14 @@ pub record IsFound (scope : List ℕ) (found : List (List ℕ)) (word : List ℕ
 pub record AreReaders (T : List ℕ → Type 0) (scope : List ℕ) (words found : List (List ℕ)) : Type 0 where
   pub inside : All (ReadsRow T scope words) found
   pub each : (t : List ℕ) → ReadsRow T scope words t → IsFound scope found (read_at t scope)
+
+-- the places of the scope are the first of the order, and each first stands at the number in the scope that is listed for it
+pub record AreFirsts (ord scope first : List ℕ) : Type 0 where
+  pub known : All (λ e. e < length scope) first
+  pub places : (k : ℕ) → k < length first → slice_index ord k ≡ slice_index scope (slice_index first k)
+  pub within : (e : ℕ) → e < length scope → InFront ord (length first) (slice_index scope e)
+
+-- a member that reads the row at the scope
+pub record IsReader (T : List ℕ → Type 0) (scope row t : List ℕ) : Type 0 where
+  pub inside : T t
+  pub reads : read_at t scope ≡ row

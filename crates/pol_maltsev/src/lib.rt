@@ -5,6 +5,7 @@
 mod classes;
 mod full;
 mod ordering;
+mod reading;
 mod row;
 mod size;
 mod swapping;
