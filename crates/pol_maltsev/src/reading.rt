@@ -1,13 +1,14 @@
 ghost use Rattle.std.specs.Prelude.{◌≡◌, ℕ, ◌<◌, ◌≤◌, List, length, All, IsTrue, ◌↔◌, IfOk, IfSome, IfNone};
 ghost use Rattle.pol_base.specs.Tuples.{IsTuple};
 ghost use Rattle.pol_relation.specs.Instances.{read_at};
-ghost use Rattle.pol_maltsev.specs.Restrictions.{AreFirsts, IsReader};
+ghost use Rattle.pol_maltsev.specs.Restrictions.{AreFirsts, AreReaders, IsReader};
 ghost use Rattle.pol_maltsev.specs.Views.{InTable, IsSoundTable};
 
 use crate::row::Row;
 use crate::table::Table;
 use pol_base::NoMemory;
 use pol_optable::OpTable;
+use pol_relation::Relation;
 use std::alloc::Global;
 
 /// The values of the row at the places.
@@ -67,5 +68,34 @@ impl Table {
         } else {
             Ok(None)
         }
+    }
+
+    /// Members that read rows of the relation at the scope, one for each row that some member reads. The
+    /// places of the scope are the first of the order, those at the numbers `first` of the scope.
+    pub(crate) fn readers(
+        &self,
+        alloc: Global,
+        op: &OpTable<3>,
+        scope: &[u32],
+        first: &[u32],
+        r: &Relation,
+    ) -> Result<Vec<Row>, NoMemory>
+        requires sound { IsSoundTable op.now self.now }
+        requires scope { All (λ p. p < self.now.width) scope.now }
+        requires firsts { AreFirsts self.now.order scope.now first.now }
+        requires some { 1 ≤ length first.now }
+        requires few { length first.now ≤ self.now.width }
+        requires long { length scope.now ≡ r.now.arity }
+        requires domain { r.now.domain ≡ self.now.domain }
+        ensures readers { IfOk result (λ found.
+            AreReaders (InTable op.now self.now) scope.now r.now.rows found.items) }
+    {
+        let mut found = Vec::new(alloc);
+        for i in 0..r.len() {
+            if let Some(member) = self.reader(alloc, op, scope, first, r.row(i))? {
+                found.push(member)?;
+            }
+        }
+        Ok(found)
     }
 }
