@@ -1,5 +1,5 @@
 -- What is made of a table where its set shrinks to the members that some first places decide.
-use Rattle.std.specs.Prelude.{◌≡◌, ◌<◌, ℕ, List, [], ◌∷◌, slice_index, length, All, Contains}
+use Rattle.std.specs.Prelude.{◌≡◌, ◌<◌, ℕ, List, [], ◌∷◌, slice_index, slice_index_or, length, All, Contains}
 use Rattle.pol_relation.specs.Instances.{read_at}
 use Rattle.pol_optable.specs.Operations.{Operation, value_at}
 use Rattle.pol_maltsev.specs.Representations.{ReadsRow}
@@ -81,3 +81,15 @@ pub record AreFirsts (ord scope first : List ℕ) : Type 0 where
 pub record IsReader (T : List ℕ → Type 0) (scope row t : List ℕ) : Type 0 where
   pub inside : T t
   pub reads : read_at t scope ≡ row
+
+-- the number is the least of a row that has the value at the place
+pub record IsFirstWith (rows : List (List ℕ)) (j b i : ℕ) : Type 0 where
+  pub known : i < length rows
+  pub at : slice_index (slice_index_or rows i []) j ≡ b
+  pub first : (e : ℕ) → e < i → ¬ (slice_index (slice_index_or rows e []) j ≡ b)
+
+-- the row with the number has the value at the place, and agrees with the base at S
+pub record IsSharer (rows : List (List ℕ)) (S : ℕ → Type 0) (j c : ℕ) (base : List ℕ) (i : ℕ) : Type 0 where
+  pub known : i < length rows
+  pub at : slice_index (slice_index_or rows i []) j ≡ c
+  pub near : Agree S (slice_index_or rows i []) base

@@ -6,6 +6,7 @@ mod classes;
 mod full;
 mod ordering;
 mod reading;
+mod restricting;
 mod row;
 mod size;
 mod swapping;

@@ -1,0 +1,59 @@
+ghost use Rattle.std.specs.Prelude.{◌≡◌, ℕ, ◌<◌, ◌≤◌, length, All, IsTrue, ◌↔◌, IfSome, IfNone};
+ghost use Rattle.pol_base.specs.Tuples.{IsTuple};
+ghost use Rattle.pol_maltsev.specs.Orders.{InFront};
+ghost use Rattle.pol_maltsev.specs.Tables.{Agree};
+ghost use Rattle.pol_maltsev.specs.Restrictions.{HasListed, IsFirstWith, IsSharer};
+
+use crate::row::Row;
+use crate::table::Table;
+
+/// The number of the first row that has the value at the place.
+fn first_with(rows: &[Row], j: u32, b: u8) -> Option<usize>
+    requires place { All (λ row. j < length row) rows.now }
+    ensures first { IfSome result (IsFirstWith rows.now j b) }
+    ensures none { IfNone result (¬ HasListed rows.now j b) }
+{
+    for (i, row) in rows.iter().enumerate() {
+        if row.as_slice()[j as usize] == b {
+            return Some(i);
+        }
+    }
+    None
+}
+
+impl Table {
+    /// Whether both tuples agree at the first `k` places of the order.
+    fn agrees(&self, k: u32, one: &[u8], other: &[u8]) -> bool
+        requires position { k ≤ self.now.width }
+        requires one { length one.now ≡ self.now.width }
+        requires other { length other.now ≡ self.now.width }
+        ensures agrees { IsTrue result ↔ Agree (InFront self.now.order k) one.now other.now }
+    {
+        for e in 0..k {
+            let p = self.place(e) as usize;
+            if one[p] != other[p] {
+                return false;
+            }
+        }
+        true
+    }
+
+    /// The number of a row that has the value at the place, and agrees with the base at the first `k` places
+    /// of the order.
+    fn sharer(&self, rows: &[Row], k: u32, j: u32, c: u8, base: &[u8]) -> Option<usize>
+        requires position { k ≤ self.now.width }
+        requires place { j < self.now.width }
+        requires rows { All (λ row. length row ≡ self.now.width) rows.now }
+        requires base { length base.now ≡ self.now.width }
+        ensures shares { IfSome result (IsSharer rows.now (InFront self.now.order k) j c base.now) }
+        ensures none { IfNone result ((i : ℕ) → ¬ IsSharer rows.now (InFront self.now.order k) j c base.now i) }
+    {
+        for (i, row) in rows.iter().enumerate() {
+            let row = row.as_slice();
+            if row[j as usize] == c && self.agrees(k, row, base) {
+                return Some(i);
+            }
+        }
+        None
+    }
+}
