@@ -15,3 +15,4 @@ pub mod FullLemmas
 pub mod ReorderLemmas
 pub mod WalkLemmas
 pub mod ReadingLemmas
+pub mod EarlyLemmas

@@ -1,5 +1,5 @@
 -- What is made of a table where its set shrinks to the members that some first places decide.
-use Rattle.std.specs.Prelude.{◌≡◌, ◌<◌, ℕ, List, [], ◌∷◌, slice_index, slice_index_or, length, All, Contains}
+use Rattle.std.specs.Prelude.{◌≡◌, ◌<◌, ℕ, List, [], ◌∷◌, slice_index, slice_index_or, length, All, Contains, if◌then◌else◌, ◌==◌}
 use Rattle.pol_relation.specs.Instances.{read_at}
 use Rattle.pol_optable.specs.Operations.{Operation, value_at}
 use Rattle.pol_maltsev.specs.Representations.{ReadsRow}
@@ -93,3 +93,21 @@ pub record IsSharer (rows : List (List ℕ)) (S : ℕ → Type 0) (j c : ℕ) (b
   pub known : i < length rows
   pub at : slice_index (slice_index_or rows i []) j ≡ c
   pub near : Agree S (slice_index_or rows i []) base
+
+-- the first of the rows that has the value at the place
+abbrev pub first_row : List (List ℕ) → ℕ → ℕ → List ℕ
+first_row [] j b = []
+first_row (row ∷ rows) j b = if slice_index row j == b then row else first_row rows j b
+
+-- some row has b at the place, and the row with the number has c there and agrees at S with the first that has b
+pub record IsJoinedTo (rows : List (List ℕ)) (S : ℕ → Type 0) (j b c i : ℕ) : Type 0 where
+  pub owner : HasListed rows j b
+  pub sharer : IsSharer rows S j c (first_row rows j b) i
+
+-- what stands for the value c at an early place
+pub record IsEarlyClass (d : ℕ) (rows : List (List ℕ)) (S : ℕ → Type 0) (j c : ℕ) (row : List ℕ) (root : ℕ) : Type 0 where
+  pub gone : root < d → HasListed rows j c
+  pub chosen : HasListed rows j c → IsLeastOf d (SharesBase rows S j (first_row rows j) c) root
+  pub listed : HasListed rows j c → Contains rows row
+  pub at : HasListed rows j c → slice_index row j ≡ c
+  pub near : HasListed rows j c → Agree S row (first_row rows j root)

@@ -1,8 +1,8 @@
-ghost use Rattle.std.specs.Prelude.{◌≡◌, ℕ, ◌<◌, ◌≤◌, length, All, IsTrue, ◌↔◌, IfSome, IfNone};
+ghost use Rattle.std.specs.Prelude.{◌≡◌, ℕ, ◌<◌, ◌≤◌, length, slice_index, All, IsTrue, ◌↔◌, IfSome, IfNone};
 ghost use Rattle.pol_base.specs.Tuples.{IsTuple};
 ghost use Rattle.pol_maltsev.specs.Orders.{InFront};
 ghost use Rattle.pol_maltsev.specs.Tables.{Agree};
-ghost use Rattle.pol_maltsev.specs.Restrictions.{HasListed, IsFirstWith, IsSharer};
+ghost use Rattle.pol_maltsev.specs.Restrictions.{HasListed, SharesBase, IsFirstWith, IsSharer, IsJoinedTo, first_row};
 
 use crate::row::Row;
 use crate::table::Table;
@@ -55,5 +55,22 @@ impl Table {
             }
         }
         None
+    }
+
+    /// The number of a row that has `c` at the place at position `k` of the order, and agrees before it with
+    /// the first row that has `b` there.
+    fn joined_to(&self, rows: &[Row], k: u32, b: u8, c: u8) -> Option<usize>
+        requires position { k < self.now.width }
+        requires rows { All (IsTuple self.now.domain self.now.width) rows.now }
+        ensures joined { IfSome result
+            (IsJoinedTo rows.now (InFront self.now.order k) (slice_index self.now.order k) b c) }
+        ensures none { IfNone result (¬ SharesBase rows.now (InFront self.now.order k)
+            (slice_index self.now.order k) (first_row rows.now (slice_index self.now.order k)) c b) }
+    {
+        let j = self.place(k);
+        match first_with(rows, j, b) {
+            Some(base) => self.sharer(rows, k, j, c, rows[base].as_slice()),
+            None => None,
+        }
     }
 }
