@@ -120,3 +120,11 @@ base_found rows j b i base h is = is ∙ get_or_default rows i base [] h.known �
 
 pub owner_found : (rows : List (List ℕ)) (j b i : ℕ) → IsFirstWith rows j b i → HasListed rows j b
 owner_found rows j b i h = record { member = get_or rows i []; listed = Contains-get_or rows i [] h.known; at = h.at }
+
+-- none of the values up to one
+pub none_more : (P : ℕ → Type 0) (b : ℕ) → ((e : ℕ) → e < b → ¬ P e) → ¬ P b → (e : ℕ) → e < b + 1 → ¬ P e
+none_more P b before here e low = at (cases_lt e b)
+  where
+    at : (e < b) ⊎ (b ≤ e) → ¬ P e
+    at (inl less) = before e less
+    at (inr most) = let same : e ≡ b = omega (arith, most, low) in λ h. here (rw same at h)

@@ -33,7 +33,7 @@ walk_begins f v word is small there = from (walk_first f.domain (InTable f v) v.
 pub walk_none_begins : (f : Operation) (v : TableView) (word : List ℕ) (q : ℕ) (t : List ℕ) → IsSoundTable f v → 1 ≤ q → root_in v (slice_index v.order 0) (slice_index word 0) ≡ v.domain → IsReading (InTable f v) v.order word q t → ⊥
 walk_none_begins f v word q t is some none h =
     let there : root_in v (slice_index v.order 0) (slice_index word 0) < f.domain =
-        walk_none f.domain (InTable f v) v.order word (row_in v (slice_index v.order 0)) (root_in v (slice_index v.order 0)) t (is.table.known 0 is.view.some_places) (reads_less f v word 1 q t some h) in
+    walk_none f.domain (InTable f v) v.order word (row_in v (slice_index v.order 0)) (root_in v (slice_index v.order 0)) t (is.table.known 0 is.view.some_places) (reads_less f v word 1 q t some h) in
     omega (arith, there, none, is.same_domain)
 
 -- one value more

@@ -1,11 +1,15 @@
-ghost use Rattle.std.specs.Prelude.{◌≡◌, ℕ, ◌<◌, ◌≤◌, length, slice_index, All, IsTrue, ◌↔◌, IfSome, IfNone};
+ghost use Rattle.std.specs.Prelude.{◌≡◌, ℕ, ◌<◌, ◌≤◌, length, slice_index, All, IsTrue, ◌↔◌, IfOk, IfSome, IfNone};
 ghost use Rattle.pol_base.specs.Tuples.{IsTuple};
 ghost use Rattle.pol_maltsev.specs.Orders.{InFront};
 ghost use Rattle.pol_maltsev.specs.Tables.{Agree};
-ghost use Rattle.pol_maltsev.specs.Restrictions.{HasListed, SharesBase, IsFirstWith, IsSharer, IsJoinedTo, first_row};
+ghost use Rattle.pol_maltsev.specs.Restrictions.{HasListed, SharesBase, IsFirstWith, IsSharer, IsJoinedTo, IsEarlyClass, first_row};
+ghost use Rattle.pol_maltsev.specs.Views.{AreMade, IsMade};
 
+use crate::classes::ValueClasses;
 use crate::row::Row;
 use crate::table::Table;
+use pol_base::NoMemory;
+use std::alloc::Global;
 
 /// The number of the first row that has the value at the place.
 fn first_with(rows: &[Row], j: u32, b: u8) -> Option<usize>
@@ -72,5 +76,45 @@ impl Table {
             Some(base) => self.sharer(rows, k, j, c, rows[base].as_slice()),
             None => None,
         }
+    }
+
+    /// After a restriction to what the rows begin with: the row and the root of a value of the place at
+    /// position `k` of the order.
+    fn early_class(&self, alloc: Global, rows: &[Row], k: u32, c: u8) -> Result<(Row, u8), NoMemory>
+        requires position { k < self.now.width }
+        requires value { c < self.now.domain }
+        requires rows { All (IsTuple self.now.domain self.now.width) rows.now }
+        ensures made { IfOk result (λ m. IsMade (IsEarlyClass self.now.domain rows.now
+            (InFront self.now.order k) (slice_index self.now.order k))
+            self.now.domain self.now.width c m.0 m.1) }
+    {
+        let d = self.domain().size();
+        for b in 0..c + 1 {
+            if let Some(i) = self.joined_to(rows, k, b, c) {
+                return Ok((Row::from_slice(alloc, rows[i].as_slice())?, b));
+            }
+        }
+        Ok((Row::unit(alloc, self.width(), self.place(k), c)?, d))
+    }
+
+    /// The same for each value.
+    pub(crate) fn early_classes(
+        &self,
+        alloc: Global,
+        rows: &[Row],
+        k: u32,
+    ) -> Result<ValueClasses, NoMemory>
+        requires position { k < self.now.width }
+        requires rows { All (IsTuple self.now.domain self.now.width) rows.now }
+        ensures made { IfOk result (λ m. AreMade (IsEarlyClass self.now.domain rows.now
+            (InFront self.now.order k) (slice_index self.now.order k))
+            self.now.domain self.now.width self.now.domain m) }
+    {
+        let mut made = ValueClasses::new(alloc);
+        for c in 0..self.domain().size() {
+            let (row, root) = self.early_class(alloc, rows, k, c)?;
+            made.push(row, root)?;
+        }
+        Ok(made)
     }
 }

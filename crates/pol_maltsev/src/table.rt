@@ -27,17 +27,17 @@ impl Model for Table {
     ghost Value = { TableView };
 
     ghost view = { λ t. record {
-        domain = t.domain;
-        width = t.width;
-        order = t.order.items;
-        places = t.places.items;
+      domain = t.domain;
+      width = t.width;
+      order = t.order.items;
+      places = t.places.items;
     } };
 
     ghost invariant = { λ t. IsTableView (record {
-        domain = t.domain;
-        width = t.width;
-        order = t.order.items;
-        places = t.places.items;
+      domain = t.domain;
+      width = t.width;
+      order = t.order.items;
+      places = t.places.items;
     }) };
 }
 

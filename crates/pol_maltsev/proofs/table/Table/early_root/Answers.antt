@@ -17,13 +17,13 @@ loop-q-init c =
 -- one value more
 pub loop-q-preserved : goal.loop-q-preserved
 loop-q-preserved c = elim c.if-same.branch [
-      then-same w ↦
-          let root : c.if-same.least ≡ min c.loop-q.least ((sides_at c.args.self.now c.args.k).cy (led c.args.op.now (sides_at c.args.self.now c.args.k) c.args.c (slice_index ((sides_at c.args.self.now c.args.k).ry c.args.c) (sides_at c.args.self.now c.args.k).x) c.loop-q.q)) =
-              cc (w.least-is, w.min-least.ensures, w.root.ensures.root, w.led.ensures.led, c.place-y.ensures.place, c.place-x.ensures.place, c.row.ensures.row) in
-          rw root (least_more c.args.op.now (sides_at c.args.self.now c.args.k) c.args.c c.loop-q.q c.loop-q.least low (may.0 w.if-same.true) c.loop-q.invariant)
-    | else-same w ↦
-          rw w.least-is (least_stays c.args.op.now (sides_at c.args.self.now c.args.k) c.args.c c.loop-q.q c.loop-q.least (λ h. false≢true (sym w.if-same.false ∙ may.1 h)) c.loop-q.invariant)
-    ]
+  | then-same w ↦
+      let root : c.if-same.least ≡ min c.loop-q.least ((sides_at c.args.self.now c.args.k).cy (led c.args.op.now (sides_at c.args.self.now c.args.k) c.args.c (slice_index ((sides_at c.args.self.now c.args.k).ry c.args.c) (sides_at c.args.self.now c.args.k).x) c.loop-q.q)) =
+      cc (w.least-is, w.min-least.ensures, w.root.ensures.root, w.led.ensures.led, c.place-y.ensures.place, c.place-x.ensures.place, c.row.ensures.row) in
+      rw root (least_more c.args.op.now (sides_at c.args.self.now c.args.k) c.args.c c.loop-q.q c.loop-q.least low (may.0 w.if-same.true) c.loop-q.invariant)
+  | else-same w ↦
+      rw w.least-is (least_stays c.args.op.now (sides_at c.args.self.now c.args.k) c.args.c c.loop-q.q c.loop-q.least (λ h. false≢true (sym w.if-same.false ∙ may.1 h)) c.loop-q.invariant)
+]
   where
     low : c.loop-q.q < c.args.op.now.domain
     low = omega (arith, c.loop-q-test.true, c.size-q-end.ensures.size, c.domain.ensures.domain, c.requires.sound.same_domain)

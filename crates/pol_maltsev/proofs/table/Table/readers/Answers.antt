@@ -7,16 +7,16 @@ use Rattle.pol_maltsev.proofs.table.Table.readers.Goals.{in-Some+in_ok-push, in_
 -- one row more
 pub loop-i-preserved : goal.loop-i-preserved
 loop-i-preserved c = elim c.match-branch-2.branch [
-      in-Some+in_ok-push w ↦
-          let longer : c.match-branch-2.found.items ≡ c.loop-i.found.items ++ w.in-Some.member ∷ [] = ap (λ found. found.items) w.found-is ∙ w.in_ok-push.ensures.items in
-          rw longer
-          (readers_more (InTable c.args.op.now c.args.self.now) c.args.scope.now c.args.r.now.rows c.loop-i.i c.loop-i.found.items w.in-Some.member low c.loop-i.invariant
-          (rw (w.in-Some.is, c.row.ensures.row) at c.in_ok-member.ensures.reads))
-    | in_default w ↦
-          rw w.found-is
-          (readers_same (InTable c.args.op.now c.args.self.now) c.args.scope.now c.args.r.now.rows c.loop-i.i c.loop-i.found.items c.loop-i.invariant
-          (rw (w.in_default.is, c.row.ensures.row) at c.in_ok-member.ensures.none))
-    ]
+  | in-Some+in_ok-push w ↦
+      let longer : c.match-branch-2.found.items ≡ c.loop-i.found.items ++ w.in-Some.member ∷ [] = ap (λ found. found.items) w.found-is ∙ w.in_ok-push.ensures.items in
+      rw longer
+      (readers_more (InTable c.args.op.now c.args.self.now) c.args.scope.now c.args.r.now.rows c.loop-i.i c.loop-i.found.items w.in-Some.member low c.loop-i.invariant
+      (rw (w.in-Some.is, c.row.ensures.row) at c.in_ok-member.ensures.reads))
+  | in_default w ↦
+      rw w.found-is
+      (readers_same (InTable c.args.op.now c.args.self.now) c.args.scope.now c.args.r.now.rows c.loop-i.i c.loop-i.found.items c.loop-i.invariant
+      (rw (w.in_default.is, c.row.ensures.row) at c.in_ok-member.ensures.none))
+]
   where
     low : c.loop-i.i < length c.args.r.now.rows
     low = omega (arith, c.loop-i-test.true, c.len-i-end.ensures.rows)

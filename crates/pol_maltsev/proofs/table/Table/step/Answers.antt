@@ -12,6 +12,6 @@ returns-clause-tuple c =
     let n = c.args.self.now.width in
     let t = c.args.t.now in
     let made : IsTuple f.domain n (image f n (t ∷ c.row.result.now ∷ c.row-2.result.now ∷ [])) =
-        image_tuple f n t c.row.result.now c.row-2.result.now c.requires.table (rw c.requires.domain at c.requires.tuple) (rw c.requires.domain at c.row.ensures.tuple) (rw c.requires.domain at c.row-2.ensures.tuple) in
+    image_tuple f n t c.row.result.now c.row-2.result.now c.requires.table (rw c.requires.domain at c.requires.tuple) (rw c.requires.domain at c.row.ensures.tuple) (rw c.requires.domain at c.row-2.ensures.tuple) in
     rw c.requires.domain
     (IfOk-weaker c.image.result (λ r. r ≡ image f (length t) (t ∷ c.row.result.now ∷ c.row-2.result.now ∷ [])) (IsTuple f.domain n) (λ r same. rw same (rw c.requires.tuple.long made)) c.image.ensures.image)
