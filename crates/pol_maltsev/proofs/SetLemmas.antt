@@ -1,18 +1,19 @@
 -- The set that a table stands for.
-use Rattle.std.proofs.Common.{◌≡◌, ℕ, ◌<◌, ◌≤◌, ◌+◌, List, [], arith, ◌↔◌, ◌∙◌}
+use Rattle.std.proofs.Common.{◌≡◌, ℕ, ◌<◌, ◌≤◌, ◌+◌, List, [], arith, ◌↔◌, ◌∙◌, subst, sym, eqb, ltb, ◌&&◌}
 use Rattle.std.specs.Prelude.{slice_index}
 use Rattle.pol_base.specs.Tuples.{IsTuple}
 use Rattle.pol_optable.specs.Operations.{Operation}
 use Rattle.pol_optable.specs.Tables.{IsOpTable}
 use Rattle.pol_optable.specs.Identities.{IsMaltsev}
-use Rattle.pol_maltsev.specs.Representations.{IsPreserved}
-use Rattle.pol_maltsev.specs.Orders.{InFront}
-use Rattle.pol_maltsev.specs.Tables.{IsTable}
-use Rattle.pol_maltsev.specs.Views.{TableView, classes_at, row_in, root_in, AreClasses, IsTableView, InTable, IsSoundTable, IsSwappedView, HaveOneShape, HaveOneSet, no_classes}
+use Rattle.pol_maltsev.specs.Representations.{IsPreserved, InClosure, Represents}
+use Rattle.pol_rows.specs.Signatures.{IsSignatureSize, count_triples}
+use Rattle.pol_maltsev.specs.Orders.{InFront, IsNatural}
+use Rattle.pol_maltsev.specs.Tables.{IsTable, ListsTable}
+use Rattle.pol_maltsev.specs.Views.{TableView, classes_at, row_in, root_in, same_in, AreClasses, IsTableView, InTable, IsSoundTable, IsSwappedView, HaveOneShape, HaveOneSet, no_classes}
 use Rattle.pol_maltsev.specs.Views.InTable.{listed, made}
 use Rattle.pol_maltsev.proofs.TupleLemmas.{same_tuple, image_tuple}
 use Rattle.pol_maltsev.proofs.OrderLemmas.{swap_table}
-use Rattle.pol_maltsev.proofs.TableLemmas.{IsClose, close_at, same_set}
+use Rattle.pol_maltsev.proofs.TableLemmas.{IsClose, close_at, same_set, table_size, table_represents, table_closure}
 
 -- what is kept at a place
 pub classes_are : (v : TableView) (p : ℕ) → IsTableView v → p < v.width → AreClasses v.domain v.width (classes_at v p)
@@ -97,3 +98,19 @@ swap_sound f k old new is low shape view swapped = (
 
     table : IsTable new.width f.domain (InTable f old) new.order (row_in new) (root_in new)
     table = rw shape.width (swap_table f old.width k (InTable f old) old.order new.order (row_in old) (root_in old) (row_in new) (root_in new) is.maltsev kept is.table low swapped)
+
+-- in the natural order the pairs of one class are the signature
+pub natural_size : (f : Operation) (v : TableView) → IsSoundTable f v → IsNatural v.width v.order → IsSignatureSize v.width f.domain (InTable f v) (count_triples v.width v.domain (same_in v))
+natural_size f v is natural =
+    subst (λ d. IsSignatureSize v.width f.domain (InTable f v) (count_triples v.width d (λ i a b. eqb (root_in v i a) (root_in v i b) && ltb (root_in v i a) d))) (sym is.same_domain)
+    (table_size f v.width (InTable f v) v.order (row_in v) (root_in v) (set_preserved f v is.operation is.same_domain is.view) natural.itself is.table)
+
+-- rows that list each row of the table, and only members, represent its set
+pub natural_represents : (f : Operation) (v : TableView) (rows : List (List ℕ)) → IsSoundTable f v → IsNatural v.width v.order → ListsTable v.width f.domain (InTable f v) (row_in v) (root_in v) rows → Represents v.width rows (InTable f v)
+natural_represents f v rows is natural lists =
+    table_represents f v.width (InTable f v) v.order (row_in v) (root_in v) rows (set_preserved f v is.operation is.same_domain is.view) natural.itself is.table lists
+
+-- and their closure is its set
+pub listed_closure : (f : Operation) (v : TableView) (rows : List (List ℕ)) → IsSoundTable f v → ListsTable v.width f.domain (InTable f v) (row_in v) (root_in v) rows → (t : List ℕ) → InClosure f v.width rows t ↔ InTable f v t
+listed_closure f v rows is lists =
+    table_closure f v.width (InTable f v) v.order (row_in v) (root_in v) rows is.maltsev (set_preserved f v is.operation is.same_domain is.view) is.view.some_places is.table lists

@@ -1,5 +1,6 @@
 -- Sizes of signatures: the size is one number, and it is at most n d d.
-use Rattle.std.proofs.Common.{◌≡◌, ℕ, suc, zero, ◌+◌, ◌*◌, ◌<◌, ◌≤◌, Bool, true, false, cond, List, arith, refl, add-one}
+use Rattle.std.proofs.Common.{◌≡◌, ℕ, suc, zero, ◌+◌, ◌*◌, ◌<◌, ◌≤◌, Bool, true, false, cond, List, arith, refl, add-one, ◌⊎◌, inl, inr}
+use Rattle.std.proofs.lemmas.Bool.{cases_lt}
 use Rattle.pol_rows.specs.Signatures.{InSignature, sum_below, count_triples, IsSignatureSize}
 
 -- sums
@@ -41,3 +42,17 @@ size-bound n d T k s = rw s.counted (sum_below-bound n (d * d) _ (λ i _. sum_be
         small : (x : Bool) → cond x 1 0 ≤ 1
         small true = omega arith
         small false = omega arith
+
+-- one term is at most the sum
+pub term-le-sum : (n k : ℕ) (f : ℕ → ℕ) → k < n → f k ≤ sum_below n f
+term-le-sum zero k f low = absurd (omega (arith, low))
+term-le-sum (suc n) k f low = at (cases_lt k n) (λ less. term-le-sum n k f less)
+  where
+    at : (k < n) ⊎ (n ≤ k) → (k < n → f k ≤ sum_below n f) → f k ≤ sum_below n f + f n
+    at (inl less) more = omega (arith, more less)
+    at (inr most) more = let same : k ≡ n = omega (arith, most, low) in rw same (omega arith)
+
+-- the values that stand with themselves are at most the pairs that stand together
+pub singles-le : (n d : ℕ) (test : ℕ → ℕ → ℕ → Bool) → sum_below n (λ i. sum_below d (λ a. cond (test i a a) 1 0)) ≤ count_triples n d test
+singles-le n d test =
+    sum_below-le n _ _ (λ i low. sum_below-le d (λ a. cond (test i a a) 1 0) (λ a. sum_below d (λ b. cond (test i a b) 1 0)) (λ a a_low. term-le-sum d a (λ b. cond (test i a b) 1 0) a_low))
