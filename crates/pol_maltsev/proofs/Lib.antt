@@ -16,3 +16,4 @@ pub mod ReorderLemmas
 pub mod WalkLemmas
 pub mod ReadingLemmas
 pub mod EarlyLemmas
+pub mod RestrictTables

@@ -111,3 +111,8 @@ pub record IsEarlyClass (d : ℕ) (rows : List (List ℕ)) (S : ℕ → Type 0) 
   pub listed : HasListed rows j c → Contains rows row
   pub at : HasListed rows j c → slice_index row j ≡ c
   pub near : HasListed rows j c → Agree S row (first_row rows j root)
+
+-- a member that agrees with one of the listed at the first q places of the order
+pub record IsRestricted (T : List ℕ → Type 0) (rows : List (List ℕ)) (ord : List ℕ) (q : ℕ) (t : List ℕ) : Type 0 where
+  pub inside : T t
+  pub covered : IsCovered rows (InFront ord q) t
