@@ -1,14 +1,18 @@
 -- A table after a restriction to the members that agree with listed ones at the first places.
-use Rattle.std.proofs.Common.{◌≡◌, ℕ, ◌<◌, ◌≤◌, List, All, get_or, refl, sym, ◌∙◌, ◌↔◌}
+use Rattle.std.proofs.Common.{◌≡◌, ℕ, ◌<◌, ◌≤◌, List, All, get_or, refl, sym, ◌∙◌, ◌↔◌, [], ◌∷◌, length}
 use Rattle.std.specs.Prelude.{slice_index}
-use Rattle.std.proofs.lemmas.List.Elements.{Contains-get_or}
-use Rattle.pol_optable.specs.Operations.{Operation}
-use Rattle.pol_maltsev.specs.Representations.{IsPreserved}
-use Rattle.pol_maltsev.specs.Orders.{InFront}
-use Rattle.pol_maltsev.specs.Tables.{Agree, IsTable}
-use Rattle.pol_maltsev.specs.Restrictions.{IsCovered, IsPart, IsRestricted, IsMadeEarly, IsMadeLate, AreValues, first_row}
+use Rattle.std.proofs.lemmas.List.Elements.{Contains-get_or, All-contains}
+use Rattle.pol_optable.specs.Operations.{Operation, Preserves, image}
+use Rattle.pol_relation.specs.Relations.{RelationView}
+use Rattle.pol_maltsev.specs.Representations.{IsPreserved, ReadsRow}
+use Rattle.pol_maltsev.specs.Orders.{InFront, IsFrontScope}
+use Rattle.pol_maltsev.specs.Tables.{IsTable}
+use Rattle.pol_maltsev.specs.Restrictions.{IsPart, IsRestricted, IsMadeEarly, IsMadeLate, AreValues, AreFirsts, AreReaders, first_row}
 use Rattle.pol_maltsev.specs.Views.{TableView, IsTableView, InTable, IsSoundTable, HaveOneShape, row_in, root_in}
 use Rattle.pol_maltsev.proofs.RestrictionLemmas.{restrict_table}
+use Rattle.pol_maltsev.proofs.MeetingLemmas.{reads_row_kept}
+use Rattle.pol_maltsev.proofs.TableLemmas.{reading_part}
+use Rattle.pol_maltsev.proofs.NextLemmas.{readers_cover}
 use Rattle.pol_maltsev.proofs.SetLemmas.{set_preserved, set_is, sound_of_table}
 
 -- the first places decide which members are kept
@@ -53,3 +57,35 @@ restricted_sound f q found V old new is one all kept made = (
   sound_of_table f new (IsRestricted (InTable f old) found old.order q) is.operation is.maltsev (made.shape.domain ∙ is.same_domain) made.view (rw made.shape.width kept) (restricted_table f q found V old new is one all kept made),
   set_is f new (IsRestricted (InTable f old) found old.order q) is.maltsev (rw made.shape.width kept) made.view.some_places (restricted_table f q found V old new is one all kept made),
 )
+
+-- numbers in a scope of the places that stand first make it a scope of the first places
+pub firsts_front : (ord scope first : List ℕ) → AreFirsts ord scope first → IsFrontScope ord scope (length first)
+firsts_front ord scope first firsts = record {
+  within = firsts.within;
+  meets = λ k low. record { index = slice_index first k; early = firsts.known k 0 low; place = sym (firsts.places k low) };
+}
+
+-- the members that agree with readers at the first places are those that read a row
+pub restricted_reads : (T : List ℕ → Type 0) (ord scope first : List ℕ) (rows found : List (List ℕ)) → AreFirsts ord scope first → AreReaders T scope rows found →
+    (t : List ℕ) → IsRestricted T found ord (length first) t ↔ ReadsRow T scope rows t
+restricted_reads T ord scope first rows found firsts readers t = (
+  λ h. reads h (All-contains (ReadsRow T scope rows) found h.covered.member readers.inside h.covered.listed),
+  λ h. record { inside = h.inside; covered = readers_cover T ord scope (length first) rows found t (firsts_front ord scope first firsts) readers h },
+)
+  where
+    reads : (h : IsRestricted T found ord (length first) t) → ReadsRow T scope rows h.covered.member → ReadsRow T scope rows t
+    reads h g = (reading_part T ord scope (length first) rows firsts.within).decided h.covered.member t g h.inside (λ j s. sym (h.covered.same j s))
+
+-- a set with the members of a preserved one is preserved
+pub same_preserved : (f : Operation) (n : ℕ) (T U : List ℕ → Type 0) → ((t : List ℕ) → T t ↔ U t) → IsPreserved f n U → IsPreserved f n T
+same_preserved f n T U same kept = record {
+  tuples = λ t h. kept.tuples t ((same t).0 h);
+  keeps = λ r s t hr hs ht. (same (image f n (r ∷ s ∷ t ∷ []))).1 (kept.keeps r s t ((same r).0 hr) ((same s).0 hs) ((same t).0 ht));
+}
+
+-- so they are preserved where the relation is
+pub readers_preserved : (f : Operation) (v : TableView) (r : RelationView) (scope first : List ℕ) (found : List (List ℕ)) → IsSoundTable f v → Preserves f r → All (λ p. p < v.width) scope → length scope ≡ r.arity →
+    AreFirsts v.order scope first → AreReaders (InTable f v) scope r.rows found → IsPreserved f v.width (IsRestricted (InTable f v) found v.order (length first))
+readers_preserved f v r scope first found is pres below long firsts readers =
+    same_preserved f v.width (IsRestricted (InTable f v) found v.order (length first)) (ReadsRow (InTable f v) scope r.rows) (restricted_reads (InTable f v) v.order scope first r.rows found firsts readers)
+    (reads_row_kept f v.width (InTable f v) scope r is.operation.arity_is (set_preserved f v is.operation is.same_domain is.view) pres below long)
