@@ -28,6 +28,7 @@ pub record Represents (n : ℕ) (rows : List (List ℕ)) (T : List ℕ → Type 
   pub inside : All T rows
   pub signature : (i a b : ℕ) → i < n → InSignature T i a b → InSignature (Contains rows) i a b
 
+-- rows that represent their closure, at most two for each triple of its signature
 pub record IsSound (f : Operation) (n : ℕ) (rows : List (List ℕ)) : Type 0 where
   pub represents : Represents n rows (InClosure f n rows)
   pub compact : (size : ℕ) → IsSignatureSize n f.domain (InClosure f n rows) size → length rows ≤ 2 * size
