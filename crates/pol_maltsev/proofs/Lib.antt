@@ -17,3 +17,13 @@ pub mod WalkLemmas
 pub mod ReadingLemmas
 pub mod EarlyLemmas
 pub mod RestrictTables
+pub mod ListingLemmas
+pub mod FromRowsLemmas
+pub mod ScopeLemmas
+pub mod MeetTables
+pub mod SolvingLemmas
+pub mod FixingLemmas
+pub mod SampleLemmas
+pub mod RestrictedPlaces
+pub mod BranchLemmas
+pub mod ReachLemmas

@@ -211,7 +211,8 @@ all_found f n (suc m) T U ord V old_row old row root t mal kept kept' order one 
         (value_below f.domain n t (slice_index ord (suc m)) (kept'.tuples t in_t) (order.below (suc m) k_low)) g.value
         (record { roots = known.joined g.member t (part.within g.member g.inside) (part.within t in_t) g.near; present = known.present g.member (part.within g.member g.inside) })
 
-part_more : (T U : List ℕ → Type 0) (ord : List ℕ) (q k : ℕ) → q ≤ k → IsPart T U (InFront ord q) → IsPart T U (InFront ord k)
+-- more first places decide it too
+pub part_more : (T U : List ℕ → Type 0) (ord : List ℕ) (q k : ℕ) → q ≤ k → IsPart T U (InFront ord q) → IsPart T U (InFront ord k)
 part_more T U ord q k low part = record {
   within = part.within;
   decided = λ t u in_t in_u same. part.decided t u in_t in_u (λ j h. same j (record { index = h.index; early = omega (arith, low, h.early); place = h.place }));

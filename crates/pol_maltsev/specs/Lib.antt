@@ -5,4 +5,9 @@ pub mod Swaps
 pub mod Restrictions
 pub mod FromRows
 pub mod Views
+pub mod Listings
+pub mod Samples
 pub mod Compacts
+pub mod Fronts
+pub mod Scopes
+pub mod Solutions

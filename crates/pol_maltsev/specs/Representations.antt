@@ -21,7 +21,8 @@ pub record Follows (T : List ℕ → Type 0) (t : List ℕ) (i b : ℕ) : Type 0
 -- the least set that contains the rows and is preserved by a ternary operation
 pub data InClosure (f : Operation) (n : ℕ) (rows : List (List ℕ)) : List ℕ → Type 0 where
   given : (t : List ℕ) → Contains rows t → InClosure f n rows t
-  made : (r s t : List ℕ) → InClosure f n rows r → InClosure f n rows s → InClosure f n rows t → InClosure f n rows (image f n (r ∷ s ∷ t ∷ []))
+  made : (r s t : List ℕ) → InClosure f n rows r → InClosure f n rows s → InClosure f n rows t
+      → InClosure f n rows (image f n (r ∷ s ∷ t ∷ []))
 
 -- a subset with the same signature
 pub record Represents (n : ℕ) (rows : List (List ℕ)) (T : List ℕ → Type 0) : Type 0 where

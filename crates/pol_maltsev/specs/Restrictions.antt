@@ -12,8 +12,10 @@ pub record IsReading (T : List ℕ → Type 0) (ord word : List ℕ) (k : ℕ) (
   pub reads : (i : ℕ) → i < k → slice_index t (slice_index ord i) ≡ slice_index word i
 
 -- values at place p: those of the rows at the first k places of the order, and what the operation makes of them
-pub record AreValues (f : Operation) (k p : ℕ) (ord : List ℕ) (row : ℕ → ℕ → List ℕ) (root : ℕ → ℕ → ℕ) (V : ℕ → Type 0) : Type 0 where
-  pub of_rows : (i a : ℕ) → i < k → a < f.domain → root (slice_index ord i) a < f.domain → V (slice_index (row (slice_index ord i) a) p)
+pub record AreValues (f : Operation) (k p : ℕ) (ord : List ℕ)
+    (row : ℕ → ℕ → List ℕ) (root : ℕ → ℕ → ℕ) (V : ℕ → Type 0) : Type 0 where
+  pub of_rows : (i a : ℕ) → i < k → a < f.domain → root (slice_index ord i) a < f.domain
+      → V (slice_index (row (slice_index ord i) a) p)
   pub closed : (a b c : ℕ) → V a → V b → V c → V (value_at f (a ∷ b ∷ c ∷ []))
 
 -- a smaller set, which the values at S decide
@@ -22,7 +24,8 @@ pub record IsPart (T U : List ℕ → Type 0) (S : ℕ → Type 0) : Type 0 wher
   pub decided : (t u : List ℕ) → U t → T u → Agree S u t → U u
 
 -- later places after a restriction: the values found, their rows, and the old roots
-pub record IsMadeLate (d : ℕ) (U : List ℕ → Type 0) (S : ℕ → Type 0) (p : ℕ) (V : ℕ → Type 0) (old : ℕ → ℕ) (row : ℕ → List ℕ) (root : ℕ → ℕ) : Type 0 where
+pub record IsMadeLate (d : ℕ) (U : List ℕ → Type 0) (S : ℕ → Type 0) (p : ℕ) (V : ℕ → Type 0)
+    (old : ℕ → ℕ) (row : ℕ → List ℕ) (root : ℕ → ℕ) : Type 0 where
   pub found : (a : ℕ) → a < d → root a < d → V a
   pub old_root : (a : ℕ) → a < d → V a → root a ≡ old a
   pub classes : (a b : ℕ) → a < d → b < d → V a → SameRoot d old a b → V b
@@ -45,7 +48,8 @@ pub record SharesBase (rows : List (List ℕ)) (S : ℕ → Type 0) (j : ℕ) (b
   pub near : Agree S member (base b)
 
 -- earlier places after a restriction, from listed members and one base for each value
-pub record IsMadeEarly (d : ℕ) (rows : List (List ℕ)) (S : ℕ → Type 0) (j : ℕ) (base : ℕ → List ℕ) (row : ℕ → List ℕ) (root : ℕ → ℕ) : Type 0 where
+pub record IsMadeEarly (d : ℕ) (rows : List (List ℕ)) (S : ℕ → Type 0) (j : ℕ) (base : ℕ → List ℕ)
+    (row : ℕ → List ℕ) (root : ℕ → ℕ) : Type 0 where
   pub base_listed : (b : ℕ) → HasListed rows j b → Contains rows (base b)
   pub base_at : (b : ℕ) → HasListed rows j b → slice_index (base b) j ≡ b
   pub gone : (c : ℕ) → c < d → root c < d → HasListed rows j c
@@ -71,7 +75,7 @@ pub record AreReaders (T : List ℕ → Type 0) (scope : List ℕ) (words found 
   pub inside : All (ReadsRow T scope words) found
   pub each : (t : List ℕ) → ReadsRow T scope words t → IsFound scope found (read_at t scope)
 
--- the places of the scope are the first of the order, and each first stands at the number in the scope that is listed for it
+-- the places of the scope are the first of the order; each of these stands in the scope at the number listed for it
 pub record AreFirsts (ord scope first : List ℕ) : Type 0 where
   pub known : All (λ e. e < length scope) first
   pub places : (k : ℕ) → k < length first → slice_index ord k ≡ slice_index scope (slice_index first k)
@@ -105,7 +109,8 @@ pub record IsJoinedTo (rows : List (List ℕ)) (S : ℕ → Type 0) (j b c i : �
   pub sharer : IsSharer rows S j c (first_row rows j b) i
 
 -- what stands for the value c at an early place
-pub record IsEarlyClass (d : ℕ) (rows : List (List ℕ)) (S : ℕ → Type 0) (j c : ℕ) (row : List ℕ) (root : ℕ) : Type 0 where
+pub record IsEarlyClass (d : ℕ) (rows : List (List ℕ)) (S : ℕ → Type 0) (j c : ℕ)
+    (row : List ℕ) (root : ℕ) : Type 0 where
   pub gone : root < d → HasListed rows j c
   pub chosen : HasListed rows j c → IsLeastOf d (SharesBase rows S j (first_row rows j) c) root
   pub listed : HasListed rows j c → Contains rows row

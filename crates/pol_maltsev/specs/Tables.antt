@@ -17,7 +17,8 @@ pub record SameRoot (d : ℕ) (root : ℕ → ℕ) (a b : ℕ) : Type 0 where
   pub present : root a < d
 
 -- what the rows and roots of place p say of the set T, where the places of S stand before p
-pub record IsKnown (d : ℕ) (T : List ℕ → Type 0) (S : ℕ → Type 0) (p : ℕ) (row : ℕ → List ℕ) (root : ℕ → ℕ) : Type 0 where
+pub record IsKnown (d : ℕ) (T : List ℕ → Type 0) (S : ℕ → Type 0) (p : ℕ) (row : ℕ → List ℕ) (root : ℕ → ℕ)
+    : Type 0 where
   pub inside : (a : ℕ) → a < d → root a < d → T (row a)
   pub there : (a : ℕ) → a < d → root a < d → slice_index (row a) p ≡ a
   pub present : (t : List ℕ) → T t → root (slice_index t p) < d
@@ -27,9 +28,11 @@ pub record IsKnown (d : ℕ) (T : List ℕ → Type 0) (S : ℕ → Type 0) (p :
   pub fixed : (a : ℕ) → a < d → root a < d → root (root a) ≡ root a
 
 -- the whole table
-pub record IsTable (n d : ℕ) (T : List ℕ → Type 0) (ord : List ℕ) (row : ℕ → ℕ → List ℕ) (root : ℕ → ℕ → ℕ) : Type 0 where
+pub record IsTable (n d : ℕ) (T : List ℕ → Type 0) (ord : List ℕ) (row : ℕ → ℕ → List ℕ) (root : ℕ → ℕ → ℕ)
+    : Type 0 where
   pub order : IsOrder n ord
-  pub known : (k : ℕ) → k < n → IsKnown d T (InFront ord k) (slice_index ord k) (row (slice_index ord k)) (root (slice_index ord k))
+  pub known : (k : ℕ) → k < n
+      → IsKnown d T (InFront ord k) (slice_index ord k) (row (slice_index ord k)) (root (slice_index ord k))
 
 -- t moved to the value v at place p
 abbrev pub step : Operation → ℕ → ℕ → (ℕ → List ℕ) → List ℕ → ℕ → List ℕ
@@ -58,6 +61,7 @@ pub record IsLeastOf (d : ℕ) (P : ℕ → Type 0) (b : ℕ) : Type 0 where
   pub first : (c : ℕ) → c < d → P c → b ≤ c
 
 -- the rows list each row of the table, and only members
-pub record ListsTable (n d : ℕ) (T : List ℕ → Type 0) (row : ℕ → ℕ → List ℕ) (root : ℕ → ℕ → ℕ) (rows : List (List ℕ)) : Type 0 where
+pub record ListsTable (n d : ℕ) (T : List ℕ → Type 0) (row : ℕ → ℕ → List ℕ) (root : ℕ → ℕ → ℕ) (rows : List (List ℕ))
+    : Type 0 where
   pub inside : All T rows
   pub listed : (p a : ℕ) → p < n → a < d → root p a < d → Contains rows (row p a)

@@ -1,7 +1,6 @@
 -- How tables are seen, and the set of tuples that one stands for.
-use Rattle.std.specs.Prelude.{◌≡◌, ◌<◌, ◌≤◌, ◌+◌, ◌↔◌, ◌≢◌, ◌++◌, ℕ, List, [], ◌∷◌, length, slice_index, slice_index_or, slice_set, replicate, All, Bool, cond, ◌==◌, ◌&&◌, nat_lt}
+use Rattle.std.specs.Prelude.{◌≡◌, ◌<◌, ◌≤◌, ◌+◌, ◌↔◌, ◌≢◌, ◌++◌, ℕ, List, [], ◌∷◌, length, slice_index, slice_index_or, slice_set, replicate, All, Bool, ◌==◌, ◌&&◌, nat_lt}
 use Rattle.pol_base.specs.Tuples.{IsDomain, IsTuple}
-use Rattle.pol_rows.specs.Signatures.{sum_below}
 use Rattle.pol_optable.specs.Operations.{Operation, image}
 use Rattle.pol_optable.specs.Tables.{IsOpTable}
 use Rattle.pol_optable.specs.Identities.{IsMaltsev}
@@ -9,8 +8,8 @@ use Rattle.pol_maltsev.specs.Orders.{IsSwapped}
 use Rattle.pol_maltsev.specs.Tables.{IsTable}
 use Rattle.pol_maltsev.specs.Swaps.{Sides, sides, IsSwappedTable}
 
--- at one place: for each value a row, and the root of its class, which is the size of the domain where no member has the
--- value
+-- at one place: for each value a row, and the root of its class, which is the size of the domain where no member has
+-- the value
 pub record ClassesView : Type 0 where
   pub rows : List (List ℕ)
   pub roots : List ℕ
@@ -66,7 +65,8 @@ pub record IsTableView (v : TableView) : Type 0 where
 -- the set that the table stands for: the closure of its rows
 pub data InTable (f : Operation) (v : TableView) : List ℕ → Type 0 where
   listed : (p a : ℕ) → p < v.width → a < f.domain → root_in v p a < f.domain → InTable f v (row_in v p a)
-  made : (r s t : List ℕ) → InTable f v r → InTable f v s → InTable f v t → InTable f v (image f v.width (r ∷ s ∷ t ∷ []))
+  made : (r s t : List ℕ) → InTable f v r → InTable f v s → InTable f v t
+      → InTable f v (image f v.width (r ∷ s ∷ t ∷ []))
 
 -- the operation of a table that stands for the closure of its rows
 pub record IsSoundTable (f : Operation) (v : TableView) : Type 0 where
@@ -118,7 +118,8 @@ pub record IsReplaced (k : ℕ) (late early : ClassesView) (old new : TableView)
   pub order : IsSwapped k old.order new.order
   pub late_is : classes_at new (slice_index old.order k) ≡ late
   pub early_is : classes_at new (slice_index old.order (k + 1)) ≡ early
-  pub others : (p : ℕ) → p ≢ slice_index old.order k → p ≢ slice_index old.order (k + 1) → classes_at new p ≡ classes_at old p
+  pub others : (p : ℕ) → p ≢ slice_index old.order k → p ≢ slice_index old.order (k + 1)
+      → classes_at new p ≡ classes_at old p
 
 -- for a value at place p of n: the row that has it there and 0 elsewhere, and the root 0
 pub record IsFullAt (n p a : ℕ) (row : List ℕ) (root : ℕ) : Type 0 where
@@ -139,7 +140,3 @@ pub record IsReordered (f : Operation) (stayed : ℕ) (old new : TableView) : Ty
 -- whether both values are in one class at the place
 abbrev pub same_in : TableView → ℕ → ℕ → ℕ → Bool
 same_in v p a b = (root_in v p a == root_in v p b) && nat_lt (root_in v p a) v.domain
-
--- how many pairs of values are in one class at the place
-abbrev pub pairs_in : TableView → ℕ → ℕ
-pairs_in v p = sum_below v.domain (λ a. sum_below v.domain (λ b. cond (same_in v p a b) 1 0))

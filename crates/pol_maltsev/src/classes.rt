@@ -1,6 +1,7 @@
 ghost use Rattle.std.specs.Prelude.{◌≡◌, ◌↔◌, ◌<◌, length, IsTrue, OnOk, ◌==◌, ◌&&◌, nat_lt};
 ghost use Rattle.pol_maltsev.specs.Tables.{SameRoot};
 ghost use Rattle.pol_maltsev.specs.Views.{no_classes, row_of, root_of, with_value};
+ghost use Rattle.pol_maltsev.specs.Samples.{HasSample, set_value};
 
 use crate::row::Row;
 use pol_base::{Domain, NoMemory};
@@ -42,6 +43,16 @@ impl ValueClasses {
         Ok(())
     }
 
+    /// Puts another row and root for a value.
+    pub(crate) fn set(&mut self, a: u8, row: Row, root: u8)
+        requires row { a < length self.old.rows }
+        requires root { a < length self.old.roots }
+        ensures set { self.new ≡ set_value self.old a row root }
+    {
+        self.rows[a as usize] = row;
+        self.roots[a as usize] = root;
+    }
+
     pub(crate) fn row(&self, a: u8) -> &[u8]
         requires kept { a < length self.now.rows }
         ensures row { result.now ≡ row_of self.now a }
@@ -54,6 +65,15 @@ impl ValueClasses {
         ensures root { result ≡ root_of self.now a }
     {
         self.roots[a as usize]
+    }
+
+    /// Whether a root is known for the value.
+    pub(crate) fn has(&self, d: Domain, a: u8) -> bool
+        requires value { a < d }
+        requires kept { a < length self.now.roots }
+        ensures has { IsTrue result ↔ HasSample d self.now a }
+    {
+        self.root(a) < d.size()
     }
 
     /// Whether both values are in one class.

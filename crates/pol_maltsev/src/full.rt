@@ -12,7 +12,7 @@ use pol_optable::OpTable;
 use std::alloc::Global;
 
 /// The places in ascending order.
-fn natural_order(alloc: Global, n: u32) -> Result<Vec<u32>, NoMemory>
+pub(crate) fn natural_order(alloc: Global, n: u32) -> Result<Vec<u32>, NoMemory>
     ensures natural { IfOk result (λ order. IsNatural n order.items) }
 {
     let mut order = Vec::with_capacity(alloc, n as usize)?;

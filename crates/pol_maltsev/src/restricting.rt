@@ -1,14 +1,17 @@
-ghost use Rattle.std.specs.Prelude.{◌≡◌, ℕ, ◌<◌, ◌≤◌, length, slice_index, All, IsTrue, ◌↔◌, IfOk, IfSome, IfNone};
+ghost use Rattle.std.specs.Prelude.{◌≡◌, ℕ, ◌<◌, ◌≤◌, List, length, slice_index, All, IsTrue, ◌↔◌, IfOk, IfSome, IfNone};
 ghost use Rattle.pol_base.specs.Tuples.{IsTuple};
+ghost use Rattle.pol_maltsev.specs.Representations.{IsPreserved};
 ghost use Rattle.pol_maltsev.specs.Orders.{InFront};
 ghost use Rattle.pol_maltsev.specs.Tables.{Agree};
-ghost use Rattle.pol_maltsev.specs.Restrictions.{HasListed, SharesBase, IsFirstWith, IsSharer, IsJoinedTo, IsEarlyClass, first_row};
-ghost use Rattle.pol_maltsev.specs.Views.{AreMade, IsMade};
+ghost use Rattle.pol_maltsev.specs.Restrictions.{HasListed, SharesBase, IsFirstWith, IsSharer, IsJoinedTo, IsEarlyClass, IsRestricted, first_row};
+ghost use Rattle.pol_maltsev.specs.Samples.{Restriction, IsRestriction, AreRestricted, AreRestrictedBefore};
+ghost use Rattle.pol_maltsev.specs.Views.{AreMade, HaveOneShape, InTable, IsMade, IsSoundTable};
 
 use crate::classes::ValueClasses;
 use crate::row::Row;
 use crate::table::Table;
 use pol_base::NoMemory;
+use pol_optable::OpTable;
 use std::alloc::Global;
 
 /// The number of the first row that has the value at the place.
@@ -116,5 +119,76 @@ impl Table {
             made.push(row, root)?;
         }
         Ok(made)
+    }
+}
+
+/// For each of n places the classes of no value.
+fn no_places(alloc: Global, n: u32) -> Result<Vec<ValueClasses>, NoMemory>
+    ensures long { IfOk result (λ places. length places.items ≡ n) }
+{
+    let mut places = Vec::with_capacity(alloc, n as usize)?;
+    for _p in 0..n {
+        places.push(ValueClasses::new(alloc))?;
+    }
+    Ok(places)
+}
+
+impl Table {
+    /// After a restriction: the classes of the place at position `k`, by those of the places before it.
+    fn restricted_classes(
+        &self,
+        alloc: Global,
+        op: &OpTable<3>,
+        q: u32,
+        found: &[Row],
+        k: u32,
+        places: &[ValueClasses],
+    ) -> Result<ValueClasses, NoMemory>
+        ghost kept: { Restriction }
+        requires restriction { IsRestriction op.now self.now kept }
+        requires rows { kept.rows ≡ found.now }
+        requires first { kept.first ≡ q }
+        requires position { k < self.now.width }
+        requires before { AreRestrictedBefore op.now self.now kept k places.now }
+        ensures restricted { IfOk result (AreRestricted op.now self.now kept k places.now) }
+    {
+        if k < q {
+            self.early_classes(alloc, found, k)
+        } else {
+            self.late_classes(alloc, op, k, places)
+        }
+    }
+
+    /// The members that agree with one of the given ones at the first `q` places of the order.
+    pub(crate) fn restrict(
+        &self,
+        alloc: Global,
+        op: &OpTable<3>,
+        q: u32,
+        found: &[Row],
+    ) -> Result<Table, NoMemory>
+        requires sound { IsSoundTable op.now self.now }
+        requires some { 1 ≤ q }
+        requires few { q ≤ self.now.width }
+        requires inside { All (InTable op.now self.now) found.now }
+        requires kept { IsPreserved op.now self.now.width
+            (IsRestricted (InTable op.now self.now) found.now self.now.order q) }
+        ensures shape { IfOk result (λ t. HaveOneShape self.now t) }
+        ensures order { IfOk result (λ t. t.order ≡ self.now.order) }
+        ensures sound { IfOk result (IsSoundTable op.now) }
+        ensures set { IfOk result (λ t. (u : List ℕ) → InTable op.now t u
+            ↔ IsRestricted (InTable op.now self.now) found.now self.now.order q u) }
+    {
+        let mut places = no_places(alloc, self.width())?;
+        for k in 0..self.width() {
+            let classes = self.restricted_classes(alloc, op, q, found, k, places.as_slice())?;
+            places[self.place(k) as usize] = classes;
+        }
+        Ok(Table {
+            domain: self.domain(),
+            width: self.width(),
+            order: Vec::from_slice(alloc, self.order.as_slice())?,
+            places,
+        })
     }
 }

@@ -1,6 +1,6 @@
 ghost use Rattle.std.specs.Prelude.{◌≡◌, ℕ, ◌<◌, ◌≤◌, ◌*◌, cond};
-ghost use Rattle.pol_rows.specs.Signatures.{sum_below, count_triples};
-ghost use Rattle.pol_maltsev.specs.Views.{same_in, pairs_in};
+ghost use Rattle.pol_rows.specs.Signatures.{sum_below, count_pairs, count_triples};
+ghost use Rattle.pol_maltsev.specs.Views.{same_in};
 
 use crate::table::Table;
 
@@ -22,7 +22,7 @@ impl Table {
     /// How many pairs of values stand in one class at the place.
     fn pairs(&self, i: u32) -> u32
         requires place { i < self.now.width }
-        ensures count { result ≡ pairs_in self.now i }
+        ensures count { result ≡ count_pairs self.now.domain (same_in self.now i) }
         ensures few { result ≤ self.now.domain * self.now.domain }
     {
         let mut count = 0;

@@ -1,0 +1,7 @@
+use Rattle.std.proofs.Common.{ℕ, ◌<◌}
+use Rattle.pol_maltsev.specs.Views.{root_in}
+use Rattle.pol_maltsev.proofs.table.Table.least_row.Given as goal
+
+-- no member has one of the values before
+abbrev pub invariant-loop-a : goal.invariant-loop-a
+invariant-loop-a l = (b : ℕ) → b < l.a → ¬ (root_in l.self l.p b < l.self.domain)
