@@ -1,19 +1,21 @@
-ghost use Rattle.std.specs.Prelude.{◌≡◌, ◌-◌, ℕ, ◌≤◌, length, IfOk};
+ghost use Rattle.std.specs.Prelude.{◌≡◌, ◌-◌, ℕ, ◌≤◌, length, IfOk, IfSome, IfNone};
 ghost use Rattle.pol_base.specs.declared.class_name.ClassName.TheVariants as class;
 ghost use Rattle.pol_relation.specs.Relations.{LanguageView};
-ghost use Rattle.pol_relation.specs.Instances.{InstanceView, Fits};
+ghost use Rattle.pol_relation.specs.Instances.{InstanceView, Fits, IsSolution, HasNoSolution};
 ghost use Rattle.pol_nogood.specs.Answers.{YesSolves, NoOnlyWithoutSolution, NoHasCertificate};
 ghost use Rattle.pol_affine.specs.Answers.{SumYesSolves, SumNoOnlyWithoutSolution, SumNoHasCertificate};
+ghost use Rattle.pol_maltsev.specs.Compacts.{AreSizes};
 ghost use Rattle.pol_optable.specs.Operations.{IsPolymorphism};
 ghost use Rattle.pol_optable.specs.Identities.{IsNearUnanimity};
 ghost use Rattle.pol_optable.specs.Choices.{AreTables, HasTable};
-ghost use Rattle.pol_solve.specs.Answers.{IsLogAnswer, IsSumAnswer, AnswersByFirst};
+ghost use Rattle.pol_solve.specs.Answers.{IsLogAnswer, IsSumAnswer, IsSizesAnswer, AnswersByFirst};
 
 use crate::choosing::chosen_solution;
 use crate::solve_constant;
 use pol_affine::{SumAnswer, solve_affine};
 use pol_arc::{Consistency, arc, solve_width_one};
-use pol_base::{ClassName, NoMemory, Values};
+use pol_base::{ClassName, NoMemory, Numbers, Values};
+use pol_maltsev::{MaltsevAnswer, solve_maltsev};
 use pol_modp::Combination;
 use pol_nogood::{Log, LogAnswer, trimmed};
 use pol_optable::{Classes, Nu4, OpTable};
@@ -23,18 +25,20 @@ use pol_strong::solve_nu;
 use std::alloc::Global;
 
 /// What is answered of an instance: a solution, No with a log or a combination that shows it, or that
-/// nothing is decided.
+/// nothing is decided. Of the class `maltsev` both a solution and No come with the sizes of the solver's run.
 #[derive(Debug, Drop)]
 pub enum InstanceAnswer {
     Yes(Values),
     NoLog(Log),
     NoSum(Combination),
+    YesSizes(Values, Numbers),
+    NoSizes(Numbers),
     Undecided,
 }
 
 /// Answers the instance by the first class of which a table was found: a solution, or exactly where
-/// there is none No with a log, of which each step but the last is referred to. Undecided exactly
-/// where no table was found, or that class has no solver.
+/// there is none No; with a log, of which each step but the last is referred to, with a combination, or
+/// with the sizes of the run, by the class. Undecided exactly where no table was found.
 pub fn answer(
     alloc: Global,
     lang: &Language,
@@ -42,6 +46,7 @@ pub fn answer(
     classes: &Classes,
 ) -> Result<InstanceAnswer, NoMemory>
     requires fits { Fits lang.now inst.now }
+    requires some_variables { 1 ≤ length inst.now.variables }
     requires few_variables { length inst.now.variables ≤ 40 }
     requires few_constraints { length inst.now.constraints ≤ 256 }
     requires tables { AreTables lang.now classes.now }
@@ -54,7 +59,7 @@ pub fn answer(
         Some(ClassName::Majority) => by_majority(alloc, lang, inst, classes),
         Some(ClassName::Nu4) => by_nu4(alloc, lang, inst, classes),
         Some(ClassName::Affine) => by_affine(alloc, lang, inst, classes),
-        Some(ClassName::Maltsev) => Ok(InstanceAnswer::Undecided),
+        Some(ClassName::Maltsev) => by_maltsev(alloc, lang, inst, classes),
         None => Ok(InstanceAnswer::Undecided),
     }
 }
@@ -187,6 +192,30 @@ fn by_affine(
     }
 }
 
+/// Answers by the Mal'tsev operation.
+fn by_maltsev(
+    alloc: Global,
+    lang: &Language,
+    inst: &Instance,
+    classes: &Classes,
+) -> Result<InstanceAnswer, NoMemory>
+    requires fits { Fits lang.now inst.now }
+    requires some_variables { 1 ≤ length inst.now.variables }
+    requires few_variables { length inst.now.variables ≤ 40 }
+    requires few_constraints { length inst.now.constraints ≤ 256 }
+    requires tables { AreTables lang.now classes.now }
+    ensures answers { HasTable classes.now class.Maltsev → IfOk result (IsSizesAnswer lang.now inst.now) }
+{
+    let _domain = lang.domain();
+    match &classes.maltsev {
+        Some(op) => {
+            let _cells = op.cells();
+            Ok(by_sizes(solve_maltsev(alloc, lang, inst, op)?))
+        }
+        None => Ok(InstanceAnswer::Undecided),
+    }
+}
+
 /// Answers by a near-unanimity operation: where arc consistency leaves a variable no value, by its log;
 /// where values that are chosen one by one are a solution, by these; and else by strong consistency.
 fn by_near_unanimity<const K: usize>(
@@ -239,4 +268,19 @@ fn by_sum(given: SumAnswer) -> Result<InstanceAnswer, NoMemory>
         SumAnswer::Yes(values) => InstanceAnswer::Yes(values),
         SumAnswer::No(combination) => InstanceAnswer::NoSum(combination),
     })
+}
+
+/// What the solver with sizes answers.
+fn by_sizes(given: MaltsevAnswer) -> InstanceAnswer
+    ensures answers { (lang : LanguageView) (inst : InstanceView)
+        → IfSome given.solution (IsSolution lang inst)
+        → IfNone given.solution (HasNoSolution lang inst)
+        → AreSizes lang inst given.sizes
+        → IsSizesAnswer lang inst result }
+{
+    let MaltsevAnswer { solution, sizes } = given;
+    match solution {
+        Some(values) => InstanceAnswer::YesSizes(values, sizes),
+        None => InstanceAnswer::NoSizes(sizes),
+    }
 }

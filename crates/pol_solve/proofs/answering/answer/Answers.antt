@@ -38,7 +38,7 @@ returns-in-Some-Affine c =
 pub returns-in-Some-Maltsev : goal.returns-in-Some-Maltsev
 returns-in-Some-Maltsev c =
     let first = subst (FirstFound c.args.classes.now) (c.in-Some-Maltsev.is ∙ ap (λ class. Some class) c.in-Some-Maltsev.field-0-is) c.first.ensures.first in
-    record { answers = by_first c.args.lang.now c.args.inst.now c.args.classes.now (Some Maltsev) first Undecided refl }
+    record { answers = by_first_ok c.args.lang.now c.args.inst.now c.args.classes.now c.by_maltsev.result (Some Maltsev) first (c.by_maltsev.ensures.answers first.holds) }
 
 pub returns-in-None : goal.returns-in-None
 returns-in-None c =
