@@ -6,7 +6,7 @@ use Rattle.std.proofs.lemmas.List.{nil_from_length, map_more}
 use Rattle.std.proofs.lemmas.List.Sums.{fails_before_first}
 use Rattle.std.specs.Prelude.{count_by, position}
 use Rattle.std.specs.List.{position_or_len, list_all}
-use Rattle.pol_text.specs.Lines.{lines_of, grown, without_last, is_blank, tokens_of, begins_solid, is_digit, is_number, is_letter, is_name_byte, is_name}
+use Rattle.pol_text.specs.Lines.{lines_of, grown, without_last, is_blank, tokens_of, begins_solid, is_digit, is_number, is_letter, is_name_byte, is_name, is_significant}
 use Rattle.pol_base.specs.Tuples.{cell_of}
 use Rattle.pol_base.proofs.CellLemmas.{cell_of-push}
 
@@ -118,6 +118,10 @@ without_last-other b (c ∷ d ∷ bs) other =
 abbrev pub is_solid : ℕ → Bool
 is_solid b = not (is_blank b)
 
+is_significant-grown : (b : ℕ) (ts : List (List ℕ)) → is_significant (grown b ts) ≡ not (eqb b 35)
+is_significant-grown b [] = refl
+is_significant-grown b (t ∷ ts) = refl
+
 -- blanks at the front are passed over
 pub tokens_of-blanks : (bs : List ℕ) → tokens_of bs ≡ tokens_of (drop (position_or_len is_solid bs) bs)
 tokens_of-blanks [] = refl
@@ -168,6 +172,26 @@ tokens_of-next bs behind token rest is some token_is rest_is =
     let passed = tokens_of-blanks bs in
     rw (passed, ← is, token_is, rest_is) first
 
+-- the first byte of the first token says whether it begins a comment
+is_significant-first : (b : ℕ) (bs : List ℕ) → is_blank b ≡ false → is_significant (tokens_of (b ∷ bs)) ≡ not (eqb b 35)
+is_significant-first b bs solid =
+    elim (cases_Bool (begins_solid bs)) [
+      | inl e ↦ rw (solid, e) (is_significant-grown b (tokens_of bs))
+      | inr e ↦ rw (solid, e) refl
+    ]
+
+is_significant-front : (bs : List ℕ) → begins_solid bs ≡ true → is_significant (tokens_of bs) ≡ not (eqb (get_or bs 0 0) 35)
+is_significant-front [] solid = absurd (cc)
+is_significant-front (b ∷ bs) solid = is_significant-first b bs (not-true (is_blank b) solid)
+
+-- the first byte behind the blanks says whether the line is significant
+pub is_significant-behind : (bs behind : List ℕ) → behind ≡ drop (position_or_len is_solid bs) bs → 0 < length behind → is_significant (tokens_of bs) ≡ not (eqb (get_or behind 0 0) 35)
+is_significant-behind bs behind is some =
+    let inside : position_or_len is_solid bs < length bs = omega (arith, ap length is, length-drop (position_or_len is_solid bs) bs) in
+    let solid : begins_solid behind ≡ true = rw is (begins_solid-blanks bs inside) in
+    let passed = tokens_of-blanks bs in
+    rw (passed, ← is) (is_significant-front behind solid)
+
 -- no token is empty
 pub length-tokens_of-le : (bs : List ℕ) → length (tokens_of bs) ≤ length bs
 length-tokens_of-le [] = omega arith
@@ -207,28 +231,15 @@ position-None test bs none k inside =
 pub is_number-digits : (bs : List ℕ) → 0 < length bs → length bs ≤ 9 → is_number bs ≡ list_all is_digit bs
 is_number-digits bs some few = rw (le-leb 1 (length bs) some, le-leb (length bs) 9 few)
 
--- a number has at most nine digits
-pub few_digits_from_number : (bs : List ℕ) → is_number bs ≡ true → length bs ≤ 9
-few_digits_from_number bs number =
-    let parts = and_parts (leb 1 (length bs) && leb (length bs) 9) (list_all is_digit bs) number in
-    let lengths = and_parts (leb 1 (length bs)) (leb (length bs) 9) parts.0 in
-    leb-true (length bs) 9 lengths.1
-
--- a byte of a number, taken from 48, is a digit below ten
+-- a digit, taken from 48, is below ten
 pub record IsDigit (b : ℕ) : Type 0 where
   pub low : 48 ≤ b
   pub high : b ≤ 57
 
-digit_at : (bs : List ℕ) (i : ℕ) → list_all is_digit bs ≡ true → i < length bs → is_digit (get_or bs i 0) ≡ true
-digit_at [] i digits small = absurd (omega arith)
-digit_at (b ∷ bs) zero digits small = (and_parts (is_digit b) (list_all is_digit bs) digits).0
-digit_at (b ∷ bs) (suc i) digits small = digit_at bs i (and_parts (is_digit b) (list_all is_digit bs) digits).1 (omega arith)
-
-pub IsDigit-from_number : (bs : List ℕ) (i : ℕ) → is_number bs ≡ true → i < length bs → IsDigit (get_or bs i 0)
-IsDigit-from_number bs i number small =
-    let parts = and_parts (leb 1 (length bs) && leb (length bs) 9) (list_all is_digit bs) number in
-    let digit = and_parts (leb 48 (get_or bs i 0)) (leb (get_or bs i 0) 57) (digit_at bs i parts.1 small) in
-    record { low = leb-true 48 (get_or bs i 0) digit.0; high = leb-true (get_or bs i 0) 57 digit.1 }
+pub IsDigit-from_test : (b : ℕ) → is_digit b ≡ true → IsDigit b
+IsDigit-from_test b digit =
+    let parts = and_parts (leb 48 b) (leb b 57) digit in
+    record { low = leb-true 48 b parts.0; high = leb-true b 57 parts.1 }
 
 -- where the first byte is a letter and the length is right, the other bytes decide
 pub is_name-bytes : (bs rest : List ℕ) → 0 < length bs → rest ≡ drop 1 bs → is_letter (get_or bs 0 0) ≡ true → length rest ≤ 31 → is_name bs ≡ list_all is_name_byte rest

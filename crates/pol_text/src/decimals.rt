@@ -1,6 +1,7 @@
-ghost use Rattle.std.specs.Prelude.{◌≡◌, ◌++◌, ◌-◌, map, codes, decimal, IsTrue, OnOk, OnErr};
-ghost use Rattle.pol_text.specs.Lines.{number_of, is_number};
+ghost use Rattle.std.specs.Prelude.{◌≡◌, ◌≤◌, ◌++◌, ◌-◌, if◌then◌else◌, Some, None, length, map, codes, decimal, OnOk, OnErr};
+ghost use Rattle.std.specs.List.{list_all};
 ghost use Rattle.pol_base.specs.Tuples.{cell_of};
+ghost use Rattle.pol_text.specs.Lines.{number_of, is_digit};
 ghost use Rattle.pol_text.specs.Texts.{spaced, Puts};
 
 use itoa::Buffer;
@@ -13,32 +14,26 @@ const MOST_DIGITS: usize = 9;
 pub fn number(token: &[u8]) -> Option<u32>
     ensures number { result ≡ number_of token.now }
 {
-    if is_number(token) {
-        Some(value(token))
-    } else {
-        None
-    }
-}
-
-fn is_number(token: &[u8]) -> bool
-    ensures number { result ≡ is_number token.now }
-{
     if token.is_empty() || MOST_DIGITS < token.len() {
-        return false;
+        return None;
     }
-    token.iter().all(u8::is_ascii_digit)
+    value(token)
 }
 
-/// The number that the digits write.
-fn value(digits: &[u8]) -> u32
-    requires number { IsTrue (is_number digits.now) }
-    ensures value { result ≡ cell_of 10 (map (λ b. b - 48) digits.now) }
+/// The number that the bytes write, where each is a digit.
+fn value(bytes: &[u8]) -> Option<u32>
+    requires few { length bytes.now ≤ 9 }
+    ensures value { result
+        ≡ (if list_all is_digit bytes.now then Some (cell_of 10 (map (λ b. b - 48) bytes.now)) else None) }
 {
     let mut value = 0u32;
-    for digit in digits {
-        value = value * 10 + u32::from(*digit - b'0');
+    for byte in bytes {
+        if !byte.is_ascii_digit() {
+            return None;
+        }
+        value = value * 10 + u32::from(*byte - b'0');
     }
-    value
+    Some(value)
 }
 
 /// Appends the decimal digits of the number. Where memory runs out, a front of them is appended.

@@ -11,6 +11,6 @@ mod word;
 pub use decimals::{number, put_number, put_numbers, put_spaced, put_values};
 pub use lines::{Line, Lines, count_lines, significant};
 pub use names::is_name;
-pub use refusal::{ReadFail, Refusal, put_refusal};
+pub use refusal::{LineFail, ReadFail, Refusal, put_refusal};
 pub use tokens::{Tokens, put_token};
 pub use word::Word;

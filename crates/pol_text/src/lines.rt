@@ -1,8 +1,10 @@
 ghost use Rattle.std.specs.Prelude.{◌≡◌, ℕ, ◌+◌, ◌<◌, ◌≤◌, ◌==◌, ◌^◌, List, ◌∷◌, length, take, drop, count_by, slice_get, option_map, position};
 ghost use Rattle.std.specs.Iterator.{YieldsFirst, item_count};
 ghost use Rattle.pol_text.specs.Lines.{LineView, lines_of, without_last, line_text, tokens_of, is_significant, significant_among, significant_lines};
+ghost use Rattle.pol_text.specs.Reading.{begins_with};
 
 use crate::Tokens;
+use crate::tokens::blank_length;
 use std::marker::Model;
 
 const LF: u8 = b'\n';
@@ -67,6 +69,16 @@ impl<'a> Line<'a> {
         ensures token { option_map (λ t. t.now) result ≡ slice_get self.now.tokens i }
     {
         self.tokens().nth(i)
+    }
+
+    /// Whether the first token is the keyword.
+    pub fn begins_with(&self, keyword: &[u8]) -> bool
+        ensures begins { result ≡ begins_with keyword.now self.now.tokens }
+    {
+        match self.token(0) {
+            Some(token) => token == keyword,
+            None => keyword.is_empty(),
+        }
     }
 }
 
@@ -182,8 +194,9 @@ fn without_last(bytes: &[u8], byte: u8) -> &[u8]
 fn begins_significant(text: &[u8]) -> bool
     ensures significant { result ≡ is_significant (tokens_of text.now) }
 {
-    match Tokens::new(text).next() {
-        Some(token) => token.first() != Some(&b'#'),
+    let (_, behind) = text.split_at(blank_length(text));
+    match behind.first() {
+        Some(byte) => *byte != b'#',
         None => false,
     }
 }

@@ -29,6 +29,33 @@ impl From<NoMemory> for ReadFail {
     }
 }
 
+/// Why a line was not read.
+#[derive(Clone, Copy, Debug, PartialEq, Eq)]
+pub enum LineFail {
+    Refused(Word),
+    NoMemory,
+}
+
+impl From<Word> for LineFail {
+    ghost use Rattle.pol_text.specs.declared.refusal.LineFail.TheVariants.{Refused};
+
+    ghost from_gives = { λ word fail. fail ≡ Refused word };
+
+    fn from(word: Word) -> LineFail {
+        LineFail::Refused(word)
+    }
+}
+
+impl From<NoMemory> for LineFail {
+    ghost use Rattle.pol_text.specs.declared.refusal.LineFail.TheVariants.{NoMemory as OutOfMemory};
+
+    ghost from_gives = { λ _ fail. fail ≡ OutOfMemory };
+
+    fn from(_error: NoMemory) -> LineFail {
+        LineFail::NoMemory
+    }
+}
+
 /// Appends `refused LINE WORD` and LF. Where memory runs out, a front of them is appended.
 pub fn put_refusal(out: &mut Values, refusal: Refusal) -> Result<(), NoMemory>
     ensures puts { Puts result out.old out.new (refusal_line refusal) }

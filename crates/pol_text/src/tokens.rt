@@ -47,7 +47,7 @@ impl<'a> Iterator for Tokens<'a> {
 }
 
 /// How many blanks stand at the front.
-fn blank_length(text: &[u8]) -> usize
+pub(crate) fn blank_length(text: &[u8]) -> usize
     ensures length { result ≡ position_or_len (λ b. not (is_blank b)) text.now }
     ensures within { result ≤ length text.now }
 {

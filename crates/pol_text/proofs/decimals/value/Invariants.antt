@@ -1,10 +1,13 @@
--- the number that the digits before this one write, which stays below a power of ten
-use Rattle.std.proofs.Common.{◌≡◌, ◌-◌, ◌<◌, ◌^◌, map, take}
+-- the number that the digits before this byte write, which stays below a power of ten
+use Rattle.std.proofs.Common.{◌≡◌, ◌-◌, ◌<◌, ◌^◌, true, map, take}
+use Rattle.std.specs.List.{list_all}
 use Rattle.pol_base.specs.Tuples.{cell_of}
+use Rattle.pol_text.specs.Lines.{is_digit}
 use Rattle.pol_text.proofs.decimals.value.Given as goal
 
-abbrev pub invariant-loop-digit : goal.invariant-loop-digit
-invariant-loop-digit l = record {
-  so_far : l.value ≡ cell_of 10 (map (λ b. b - 48) (take l.digit-index l.digits));
-  below : l.value < 10 ^ l.digit-index;
+abbrev pub invariant-loop-byte : goal.invariant-loop-byte
+invariant-loop-byte l = record {
+  digits : list_all is_digit (take l.byte-index l.bytes) ≡ true;
+  so_far : l.value ≡ cell_of 10 (map (λ b. b - 48) (take l.byte-index l.bytes));
+  below : l.value < 10 ^ l.byte-index;
 }
