@@ -1,1 +1,9 @@
 pub mod PrintLemmas
+pub mod CountLemmas
+pub mod ClassWords
+pub mod ItemLoops
+pub mod ItemLines
+pub mod TokensReadAgain
+pub mod OpeningsReadAgain
+pub mod ItemsReadAgain
+pub mod RefusalWords

@@ -1,2 +1,9 @@
 pub mod Texts
 pub mod Printable
+pub mod Limits
+pub mod Reports
+pub mod Tokens
+pub mod Certificates
+pub mod Openings
+pub mod Grammar
+pub mod Reading

@@ -1,7 +1,7 @@
 -- The texts of the items of a report: lines of tokens with one space between them.
 use Rattle.std.specs.Prelude.{ℕ, List, [], ◌∷◌, ◌++◌, length, map, flat_map, codes, decimal}
 use Rattle.pol_base.specs.declared.class_name.ClassName.{ClassName}
-use Rattle.pol_base.specs.declared.class_name.ClassName.TheVariants.{Affine, Nu4}
+use Rattle.pol_base.specs.declared.class_name.ClassName.TheVariants.{Affine, Maltsev, Nu4}
 use Rattle.pol_base.specs.Names.{class_word}
 use Rattle.pol_text.specs.Texts.{joined, printed_line}
 use Rattle.pol_nogood.specs.Nogoods.{Pair}
@@ -67,6 +67,18 @@ no_sum_item name sum =
     instance_line name (codes "no" ∷ class_word Affine ∷ decimal (length sum.parts) ∷ map decimal sum.labels)
     ++ joined part_line sum.parts
 
+-- the sizes of a run, behind the line of its instance
+abbrev pub sizes_line : List ℕ → List ℕ
+sizes_line sizes = printed_line (codes "sizes" ∷ map decimal sizes)
+
+-- the item of a solution of the class `maltsev`, with the sizes
+abbrev pub yes_sizes_item : List ℕ → List ℕ → List ℕ → List ℕ
+yes_sizes_item name values sizes = yes_item name Maltsev values ++ sizes_line sizes
+
+-- the item of a No of the class `maltsev`, with the sizes
+abbrev pub no_sizes_item : List ℕ → List ℕ → List ℕ
+no_sizes_item name sizes = instance_line name (codes "no" ∷ class_word Maltsev ∷ []) ++ sizes_line sizes
+
 -- the item of an instance that is not answered
 abbrev pub undecided_item : List ℕ → List ℕ
 undecided_item name = instance_line name (codes "undecided" ∷ [])
@@ -77,6 +89,8 @@ item_text (item.ClassTable class cells) = class_item class (map decimal cells)
 item_text (item.ClassNone class) = class_item class (codes "none" ∷ [])
 item_text item.ClassBeyond = class_item Nu4 (codes "beyond" ∷ [])
 item_text (item.Yes name class values) = yes_item name class values
+item_text (item.YesSizes name values sizes) = yes_sizes_item name values sizes
 item_text (item.NoLog name class log) = no_item name class log
 item_text (item.NoSum name combination) = no_sum_item name combination
+item_text (item.NoSizes name sizes) = no_sizes_item name sizes
 item_text (item.Undecided name) = undecided_item name

@@ -1,4 +1,4 @@
-use pol_base::{ClassName, Values};
+use pol_base::{ClassName, Numbers, Values};
 use pol_modp::Combination;
 use pol_nogood::Log;
 
@@ -22,6 +22,12 @@ pub enum Item {
         kind: ClassName,
         values: Values,
     },
+    /// A solution, found by the method of the class `maltsev`, with the sizes of its run.
+    YesSizes {
+        name: Values,
+        values: Values,
+        sizes: Numbers,
+    },
     /// A log that shows that there is no solution.
     NoLog {
         name: Values,
@@ -32,6 +38,11 @@ pub enum Item {
     NoSum {
         name: Values,
         combination: Combination,
+    },
+    /// There is no solution, by the method of the class `maltsev`; the sizes of its run.
+    NoSizes {
+        name: Values,
+        sizes: Numbers,
     },
     /// The instance is not answered.
     Undecided {

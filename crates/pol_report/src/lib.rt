@@ -1,15 +1,27 @@
-//! Reports: their items, and the text of each.
+//! Reports: their items, the text of each, and the reading of a text.
 #![tactic(auto)]
 
+mod certificate_lines;
+mod first_lines;
+mod further_lines;
 mod item;
+mod items;
 mod limits;
+mod opening;
 mod part_lines;
 mod printing;
+mod reading;
 mod step_lines;
+mod taking;
+mod text;
 
 pub use item::Item;
+pub use items::Items;
 pub use limits::printable;
 pub use printing::{put_head, put_item, put_last};
+pub use reading::read_items;
 
+#[cfg(test)]
+mod reading_tests;
 #[cfg(test)]
 mod tests;

@@ -1,7 +1,7 @@
 ghost use Rattle.std.specs.Prelude.{◌↔◌, IsTrue};
 ghost use Rattle.pol_modp.specs.Parts.{part_named};
 ghost use Rattle.pol_nogood.specs.Steps.{step_named};
-ghost use Rattle.pol_report.specs.Printable.{AreValues, IsShort, HasPlainYes, HasLogs, ArePrintablePairs, ArePrintableReferences, IsPrintableStep, IsPrintableLog, IsPrintablePart, ArePrintableParts, IsPrintableCombination, IsPrintable};
+ghost use Rattle.pol_report.specs.Printable.{AreValues, IsShort, HasPlainYes, HasLogs, ArePrintablePairs, ArePrintableReferences, IsPrintableStep, IsPrintableLog, IsPrintablePart, ArePrintableParts, IsPrintableCombination, ArePrintableSizes, IsPrintable};
 
 use crate::Item;
 use pol_base::ClassName;
@@ -9,26 +9,30 @@ use pol_modp::{Combination, Part};
 use pol_nogood::{Log, Nogood, Step};
 use pol_text::is_name;
 
-const MOST_CELLS: usize = 625;
+pub(crate) const MOST_ITEMS: u32 = 64;
 
-const MOST_VARIABLES: usize = 40;
+pub(crate) const MOST_CELLS: usize = 625;
 
-const MOST_STEPS: u32 = 10_037_608;
+pub(crate) const MOST_VARIABLES: usize = 40;
 
-const MOST_REFERENCES: usize = 128;
+pub(crate) const MOST_STEPS: u32 = 10_037_608;
 
-const MOST_LABELS: usize = 5;
+pub(crate) const MOST_REFERENCES: usize = 128;
 
-const MOST_PARTS: u32 = 4096;
+pub(crate) const MOST_LABELS: usize = 5;
 
-const MOST_COEFFICIENTS: usize = 6;
+pub(crate) const MOST_PARTS: u32 = 4096;
 
-const LARGEST_VALUE: u8 = 4;
+pub(crate) const MOST_COEFFICIENTS: usize = 6;
+
+pub(crate) const MOST_SIZES: usize = 257;
+
+pub(crate) const LARGEST_VALUE: u8 = 4;
 
 const LARGEST_NUMBER: u32 = 999_999_999;
 
 /// Whether the item is one that a report may have: its name is a name, its class is one that its form
-/// allows, and its values, steps, references, parts and numbers are within the bounds of the format. Takes no
+/// allows, and its values, steps, references, parts, sizes and numbers are within the bounds of the format. Takes no
 /// memory.
 pub fn printable(item: &Item) -> bool
     ensures printable { IsTrue result ↔ IsPrintable item.now }
@@ -41,11 +45,23 @@ pub fn printable(item: &Item) -> bool
                 && has_plain_yes(*kind)
                 && are_values(values.as_slice(), MOST_VARIABLES)
         }
+        Item::YesSizes {
+            name,
+            values,
+            sizes,
+        } => {
+            is_name(name.as_slice())
+                && are_values(values.as_slice(), MOST_VARIABLES)
+                && are_printable_sizes(sizes.as_slice())
+        }
         Item::NoLog { name, kind, log } => {
             is_name(name.as_slice()) && has_logs(*kind) && is_printable_log(log)
         }
         Item::NoSum { name, combination } => {
             is_name(name.as_slice()) && is_printable_combination(combination)
+        }
+        Item::NoSizes { name, sizes } => {
+            is_name(name.as_slice()) && are_printable_sizes(sizes.as_slice())
         }
         Item::Undecided { name } => is_name(name.as_slice()),
     }
@@ -151,4 +167,11 @@ fn is_printable_part(part: &Part) -> bool
         && part.multiplier <= LARGEST_VALUE
         && part.right <= LARGEST_VALUE
         && are_values(part.coefs.as_slice(), MOST_COEFFICIENTS)
+}
+
+/// Whether there is a size, there are at most so many as a run has, and each has at most nine digits.
+fn are_printable_sizes(sizes: &[u32]) -> bool
+    ensures printable { IsTrue result ↔ ArePrintableSizes sizes.now }
+{
+    !sizes.is_empty() && sizes.len() <= MOST_SIZES && sizes.iter().all(|size| is_short(*size))
 }

@@ -1,8 +1,8 @@
 ghost use Rattle.std.specs.Prelude.{◌≡◌, ◌++◌, [], ◌∷◌, map, codes, decimal};
 ghost use Rattle.pol_base.specs.Names.{class_word};
-ghost use Rattle.pol_base.specs.declared.class_name.ClassName.TheVariants.{Affine};
+ghost use Rattle.pol_base.specs.declared.class_name.ClassName.TheVariants.{Affine, Maltsev};
 ghost use Rattle.pol_text.specs.Texts.{Puts, spaced_texts};
-ghost use Rattle.pol_report.specs.Texts.{head_line, last_line, class_item, yes_item, no_item, no_sum_item, undecided_item, instance_line, item_text};
+ghost use Rattle.pol_report.specs.Texts.{head_line, last_line, class_item, yes_item, no_item, no_sum_item, yes_sizes_item, no_sizes_item, sizes_line, undecided_item, instance_line, item_text};
 ghost use Rattle.pol_report.specs.Printable.{IsPrintable};
 
 use crate::Item;
@@ -11,7 +11,7 @@ use crate::step_lines::put_steps;
 use pol_base::{ClassName, NoMemory, Values};
 use pol_modp::Combination;
 use pol_nogood::Log;
-use pol_text::{put_spaced, put_token, put_values};
+use pol_text::{put_numbers, put_spaced, put_token, put_values};
 
 /// Appends the line before the items. Where memory runs out, a front of it is appended.
 pub fn put_head(out: &mut Values) -> Result<(), NoMemory>
@@ -32,8 +32,14 @@ pub fn put_item(out: &mut Values, item: &Item) -> Result<(), NoMemory>
         Item::Yes { name, kind, values } => {
             put_yes(out, name.as_slice(), *kind, values.as_slice())
         }
+        Item::YesSizes {
+            name,
+            values,
+            sizes,
+        } => put_yes_sizes(out, name.as_slice(), values.as_slice(), sizes.as_slice()),
         Item::NoLog { name, kind, log } => put_no(out, name.as_slice(), *kind, log),
         Item::NoSum { name, combination } => put_no_sum(out, name.as_slice(), combination),
+        Item::NoSizes { name, sizes } => put_no_sizes(out, name.as_slice(), sizes.as_slice()),
         Item::Undecided { name } => put_undecided(out, name.as_slice()),
     }
 }
@@ -153,4 +159,42 @@ fn put_counted(out: &mut Values, name: &[u8], class: ClassName, lines: u32) -> R
 {
     put_answered(out, name, b"no", class)?;
     put_spaced(out, u64::from(lines))
+}
+
+/// Appends the line of a solution of the class `maltsev`, and the line of the sizes behind it.
+fn put_yes_sizes(
+    out: &mut Values,
+    name: &[u8],
+    values: &[u8],
+    sizes: &[u32],
+) -> Result<(), NoMemory>
+    ensures puts { Puts result out.old out.new (yes_sizes_item name.now values.now sizes.now) }
+{
+    put_yes(out, name, ClassName::Maltsev, values)?;
+    put_sizes(out, sizes)
+}
+
+/// Appends the line of a No of the class `maltsev`, and the line of the sizes behind it.
+fn put_no_sizes(out: &mut Values, name: &[u8], sizes: &[u32]) -> Result<(), NoMemory>
+    ensures puts { Puts result out.old out.new (no_sizes_item name.now sizes.now) }
+{
+    put_no_maltsev(out, name)?;
+    put_sizes(out, sizes)
+}
+
+/// Appends the line of a No of the class `maltsev`.
+fn put_no_maltsev(out: &mut Values, name: &[u8]) -> Result<(), NoMemory>
+    ensures puts { Puts result out.old out.new (instance_line name.now (codes "no" ∷ class_word Maltsev ∷ [])) }
+{
+    put_answered(out, name, b"no", ClassName::Maltsev)?;
+    out.append(b"\n")
+}
+
+/// Appends the line of the sizes.
+fn put_sizes(out: &mut Values, sizes: &[u32]) -> Result<(), NoMemory>
+    ensures puts { Puts result out.old out.new (sizes_line sizes.now) }
+{
+    out.append(b"sizes")?;
+    put_numbers(out, sizes)?;
+    out.append(b"\n")
 }

@@ -19,23 +19,28 @@ fn lines_of_classes(rt: HostRuntime) -> Result<(), Fail> {
     let cells = Values::from_slice(rt.alloc(), &[0, 1, 4])?;
     let kind = ClassName::SetFunction;
     let table = Item::ClassTable { kind, cells };
-    assert!(rt; prints(rt.alloc(), &table, b"class set-function 0 1 4\n")?);
+    assert!(rt; prints(rt.alloc(), table, b"class set-function 0 1 4\n")?);
     let none = Item::ClassNone {
         kind: ClassName::Affine,
     };
-    assert!(rt; prints(rt.alloc(), &none, b"class affine none\n")?);
-    assert!(rt; prints(rt.alloc(), &Item::ClassBeyond, b"class nu4 beyond\n")?);
+    assert!(rt; prints(rt.alloc(), none, b"class affine none\n")?);
+    assert!(rt; prints(rt.alloc(), Item::ClassBeyond, b"class nu4 beyond\n")?);
     Ok(())
 }
 
 #[test]
-fn lines_of_instances(rt: HostRuntime) -> Result<(), Fail> {
+fn lines_of_a_solution(rt: HostRuntime) -> Result<(), Fail> {
     let yes = yes(rt.alloc(), b"i_0-a", ClassName::Majority, &[0, 4, 1])?;
-    assert!(rt; prints(rt.alloc(), &yes, b"instance i_0-a yes majority 0 4 1\n")?);
+    assert!(rt; prints(rt.alloc(), yes, b"instance i_0-a yes majority 0 4 1\n")?);
+    Ok(())
+}
+
+#[test]
+fn lines_of_instances_without_steps(rt: HostRuntime) -> Result<(), Fail> {
     let undecided = undecided(rt.alloc(), b"x")?;
-    assert!(rt; prints(rt.alloc(), &undecided, b"instance x undecided\n")?);
+    assert!(rt; prints(rt.alloc(), undecided, b"instance x undecided\n")?);
     let no = no(rt.alloc(), ClassName::Constant, Log::new(rt.alloc()))?;
-    assert!(rt; prints(rt.alloc(), &no, b"instance a no constant 0\n")?);
+    assert!(rt; prints(rt.alloc(), no, b"instance a no constant 0\n")?);
     Ok(())
 }
 
@@ -49,7 +54,7 @@ fn lines_of_steps(rt: HostRuntime) -> Result<(), Fail> {
     log.push(by_constraint(rt.alloc(), 2, &[(2, 0)], &[0, 0, 1])?)?;
     let no = no(rt.alloc(), ClassName::Nu4, log)?;
     let text = b"instance a no nu4 3\nc 2 0 0\nv 39 2 0 4 7 0 2 0 0\nc 2 1 2 0 3 0 0 1\n";
-    assert!(rt; prints(rt.alloc(), &no, text)?);
+    assert!(rt; prints(rt.alloc(), no, text)?);
     Ok(())
 }
 
@@ -157,9 +162,9 @@ fn lines_of_parts(rt: HostRuntime) -> Result<(), Fail> {
     sums.push(part(rt.alloc(), 1, 2, 1, &[1, 1, 1])?)?;
     let no = no_sum(rt.alloc(), b"i", sums)?;
     let text = b"instance i no affine 2 0 1 2\npart 0 1 0 1 1 1\npart 1 2 1 1 1 1\n";
-    assert!(rt; prints(rt.alloc(), &no, text)?);
+    assert!(rt; prints(rt.alloc(), no, text)?);
     let none = no_sum(rt.alloc(), b"a_1", Combination::new(rt.alloc(), &[4])?)?;
-    assert!(rt; prints(rt.alloc(), &none, b"instance a_1 no affine 0 4\n")?);
+    assert!(rt; prints(rt.alloc(), none, b"instance a_1 no affine 0 4\n")?);
     Ok(())
 }
 
@@ -219,13 +224,65 @@ fn parts_are_few(rt: HostRuntime) -> Result<(), Fail> {
     Ok(())
 }
 
+#[test]
+fn lines_of_a_solution_with_sizes(rt: HostRuntime) -> Result<(), Fail> {
+    let yes = yes_sizes(rt.alloc(), b"i_0-a", &[0, 4, 1], &[75, 13, 4])?;
+    let text = b"instance i_0-a yes maltsev 0 4 1\nsizes 75 13 4\n";
+    assert!(rt; prints(rt.alloc(), yes, text)?);
+    Ok(())
+}
+
+#[test]
+fn lines_of_a_no_with_sizes(rt: HostRuntime) -> Result<(), Fail> {
+    let no = no_sizes(rt.alloc(), b"x", &[27, 10, 0])?;
+    assert!(rt; prints(rt.alloc(), no, b"instance x no maltsev\nsizes 27 10 0\n")?);
+    let one = no_sizes(rt.alloc(), b"y", &[999_999_999])?;
+    assert!(rt; prints(rt.alloc(), one, b"instance y no maltsev\nsizes 999999999\n")?);
+    Ok(())
+}
+
+#[test]
+fn sizes_are_few_and_small(rt: HostRuntime) -> Result<(), Fail> {
+    let sizes = [7u32; 258];
+    for (sizes, is) in [
+        ([].as_slice(), false),
+        ([0].as_slice(), true),
+        ([0, 999_999_999].as_slice(), true),
+        ([0, 1_000_000_000].as_slice(), false),
+        (&sizes[..257], true),
+        (sizes.as_slice(), false),
+    ] {
+        let no = no_sizes(rt.alloc(), b"a", sizes)?;
+        assert_eq!(rt; printable(&no), is, "at {sizes:?}");
+    }
+    Ok(())
+}
+
+#[test]
+fn a_yes_with_sizes_has_a_name_and_few_small_values(rt: HostRuntime) -> Result<(), Fail> {
+    let values = [0; 41];
+    for (name, values, sizes, is) in [
+        (b"a".as_slice(), [4].as_slice(), [1].as_slice(), true),
+        (b"0".as_slice(), [4].as_slice(), [1].as_slice(), false),
+        (b"a".as_slice(), [].as_slice(), [1].as_slice(), false),
+        (b"a".as_slice(), [5].as_slice(), [1].as_slice(), false),
+        (b"a".as_slice(), [4].as_slice(), [].as_slice(), false),
+        (b"a".as_slice(), &values[..40], [1].as_slice(), true),
+        (b"a".as_slice(), values.as_slice(), [1].as_slice(), false),
+    ] {
+        let yes = yes_sizes(rt.alloc(), name, values, sizes)?;
+        assert_eq!(rt; printable(&yes), is, "at {name:?}");
+    }
+    Ok(())
+}
+
 /// Whether the item is printable, and this is its text.
-fn prints(alloc: Global, item: &Item, text: &[u8]) -> Result<bool, NoMemory> {
-    if !printable(item) {
+fn prints(alloc: Global, item: Item, text: &[u8]) -> Result<bool, NoMemory> {
+    if !printable(&item) {
         return Ok(false);
     }
     let mut out = Values::new(alloc);
-    put_item(&mut out, item)?;
+    put_item(&mut out, &item)?;
     Ok(out.as_slice() == text)
 }
 
@@ -248,6 +305,23 @@ fn no(alloc: Global, kind: ClassName, log: Log) -> Result<Item, NoMemory> {
 fn no_sum(alloc: Global, name: &[u8], combination: Combination) -> Result<Item, NoMemory> {
     let name = Values::from_slice(alloc, name)?;
     Ok(Item::NoSum { name, combination })
+}
+
+fn yes_sizes(alloc: Global, name: &[u8], values: &[u8], sizes: &[u32]) -> Result<Item, NoMemory> {
+    let name = Values::from_slice(alloc, name)?;
+    let values = Values::from_slice(alloc, values)?;
+    let sizes = Numbers::from_slice(alloc, sizes)?;
+    Ok(Item::YesSizes {
+        name,
+        values,
+        sizes,
+    })
+}
+
+fn no_sizes(alloc: Global, name: &[u8], sizes: &[u32]) -> Result<Item, NoMemory> {
+    let name = Values::from_slice(alloc, name)?;
+    let sizes = Numbers::from_slice(alloc, sizes)?;
+    Ok(Item::NoSizes { name, sizes })
 }
 
 fn part(alloc: Global, c: u32, multiplier: u8, right: u8, coefs: &[u8]) -> Result<Part, NoMemory> {
