@@ -1,0 +1,3 @@
+pub mod Verdicts
+pub mod VerdictTexts
+pub mod Laws
