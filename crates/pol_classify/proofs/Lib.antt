@@ -1,3 +1,5 @@
 pub mod SizeLemmas
 pub mod LeastLemmas
 pub mod AffineLemmas
+pub mod CompositionLemmas
+pub mod SetTables
