@@ -3,6 +3,10 @@ pub mod DueLemmas
 pub mod RunLemmas
 pub mod ReportLemmas
 pub mod ReportLaws
+pub mod CheckLemmas
+pub mod CheckLaws
 pub mod DueLaws
 pub mod StatusLaws
 pub mod PrintableItems
+pub mod TextsBehind
+pub mod OwnReports

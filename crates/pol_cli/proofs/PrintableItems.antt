@@ -1,7 +1,7 @@
 -- The items of a report of a file can be printed: their numbers are within the bounds of the format.
 use Rattle.std.proofs.Common.{◌≡◌, ℕ, ◌+◌, ◌*◌, ◌^◌, ◌<◌, ◌≤◌, ◌==◌, zero, suc, cond, List, [], ◌∷◌, length, take, get_or, All, Option, Some, None, inl, inr, ap, sym, subst, arith}
 use Rattle.std.specs.Prelude.{filter, nat_lt, count_by}
-use Rattle.std.proofs.Math.Nat.{one-le-pow, pow-le-pow_left, pow-le-pow_right}
+use Rattle.std.proofs.Math.Nat.{one-le-pow, pow-le-pow_left, pow-le-pow_right, mul-le-mul}
 use Rattle.std.proofs.lemmas.Bool.{cases_lt, lt-ltb, le-ltb, eq-eqb}
 use Rattle.std.proofs.lemmas.List.{length-map, get_or_default, length-take}
 use Rattle.std.proofs.lemmas.List.FromFn.{length-map-range_with_len}
@@ -19,14 +19,17 @@ use Rattle.pol_nogood.proofs.Counting.{few_steps_of_three}
 use Rattle.pol_modp.specs.Combinations.{PartView, CombinationView}
 use Rattle.pol_modp.specs.ValidCombinations.{IsPlaced}
 use Rattle.pol_affine.specs.Answers.{parts_at, IsSumCertificate}
+use Rattle.pol_maltsev.specs.Compacts.{AreSizes}
+use Rattle.pol_maltsev.specs.Representations.{MeetsFirst}
+use Rattle.pol_rows.proofs.SizeLemmas.{size-bound}
 use Rattle.pol_optable.specs.Operations.{Operation}
 use Rattle.pol_optable.specs.ClassLines.{IsTable, IsSetTable, IsTableOf, Line, ClassLine}
 use Rattle.pol_optable.specs.ClassLines.Line.{Beyond, Sought}
 use Rattle.pol_solve.specs.declared.answering.InstanceAnswer.{InstanceAnswer}
 use Rattle.pol_solve.specs.declared.answering.InstanceAnswer.TheVariants as answer
-use Rattle.pol_solve.specs.Answers.{IsLogAnswer, IsSumAnswer, AnswersBy}
+use Rattle.pol_solve.specs.Answers.{IsLogAnswer, IsSumAnswer, IsSizesAnswer, AnswersBy}
 use Rattle.pol_report.specs.declared.item.Item.{Item}
-use Rattle.pol_report.specs.Printable.{AreValues, IsShort, basis_number, IsPrintableStep, IsPrintableLog, IsPrintablePart, IsPrintableCombination, HasPlainYes, HasLogs, IsPrintable}
+use Rattle.pol_report.specs.Printable.{AreValues, IsShort, basis_number, IsPrintableStep, IsPrintableLog, IsPrintablePart, IsPrintableCombination, ArePrintableSizes, HasPlainYes, HasLogs, IsPrintable}
 use Rattle.pol_lang.specs.Files.{IsFileLanguage, IsFileInstance}
 use Rattle.pol_cli.specs.Reports.{class_item, answer_item, IsClassItem, IsInstanceItem}
 
@@ -249,6 +252,30 @@ combination_printable lang inst sum is fits certificate =
       };
     }
 
+-- ---- sizes
+
+-- a signature of at most 40 places and five values has at most a thousand triples
+size_short : (n d size : ℕ) → n ≤ 40 → d ≤ 5 → size ≤ n * (d * d) → IsShort size
+size_short n d size few small most =
+    let square : d * d ≤ 5 * 5 = mul-le-mul small small in
+    let all : n * (d * d) ≤ 40 * (5 * 5) = mul-le-mul few square in
+    omega (arith, most, all)
+
+sizes_printable :
+    (lang : LanguageView) (inst : InstanceView) (sizes : List ℕ)
+    → IsFileLanguage lang
+    → IsFileInstance lang inst
+    → AreSizes lang inst sizes
+    → ArePrintableSizes sizes
+sizes_printable lang inst sizes is fits are = record {
+  some = omega (arith, are.counted);
+  few = omega (arith, are.counted, fits.few_constraints);
+  each = λ j none inside. subst IsShort (get_or_default sizes j 0 none inside)
+      (size_short (length inst.variables) lang.domain (get_or sizes j 0) fits.few_variables is.is_language.domain_is.few
+      (size-bound (length inst.variables) lang.domain (MeetsFirst lang inst j) (get_or sizes j 0)
+      (are.each j (omega (arith, inside, are.counted)))));
+}
+
 -- ---- the items of instances
 
 solution_values :
@@ -283,6 +310,8 @@ answer_printable class most lang inst (answer.NoLog log) three plain logs is fit
   steps = log_printable most lang inst log three is fits owed.1;
 }
 answer_printable class most lang inst (answer.NoSum combination) three plain logs is fits owed = absurd owed
+answer_printable class most lang inst (answer.YesSizes values sizes) three plain logs is fits owed = absurd owed
+answer_printable class most lang inst (answer.NoSizes sizes) three plain logs is fits owed = absurd owed
 answer_printable class most lang inst answer.Undecided three plain logs is fits owed = absurd owed
 
 sum_printable :
@@ -301,13 +330,29 @@ sum_printable lang inst (answer.NoSum combination) is fits owed = record {
   named = fits.name_is;
   combination = combination_printable lang inst combination is fits owed.1;
 }
+sum_printable lang inst (answer.YesSizes values sizes) is fits owed = absurd owed
+sum_printable lang inst (answer.NoSizes sizes) is fits owed = absurd owed
 sum_printable lang inst answer.Undecided is fits owed = absurd owed
 
--- what has no solver is undecided
-undecided_printable : (chosen : Option ClassName) (lang : LanguageView) (inst : InstanceView) (given : InstanceAnswer) → IsFileInstance lang inst → given ≡ answer.Undecided → IsPrintable (answer_item inst.name chosen given)
-undecided_printable None lang inst given fits same = fits.name_is
-undecided_printable (Some class) lang inst given fits same =
-    subst (λ some. IsPrintable (answer_item inst.name (Some class) some)) (sym same) fits.name_is
+sized_printable :
+    (lang : LanguageView) (inst : InstanceView) (given : InstanceAnswer)
+    → IsFileLanguage lang
+    → IsFileInstance lang inst
+    → IsSizesAnswer lang inst given
+    → IsPrintable (answer_item inst.name (Some Maltsev) given)
+sized_printable lang inst (answer.Yes values) is fits owed = absurd owed
+sized_printable lang inst (answer.NoLog log) is fits owed = absurd owed
+sized_printable lang inst (answer.NoSum combination) is fits owed = absurd owed
+sized_printable lang inst (answer.YesSizes values sizes) is fits owed = record {
+  named = fits.name_is;
+  solution = solution_values lang inst values is fits owed.0;
+  sized = sizes_printable lang inst sizes is fits owed.1;
+}
+sized_printable lang inst (answer.NoSizes sizes) is fits owed = record {
+  named = fits.name_is;
+  sized = sizes_printable lang inst sizes is fits owed.1;
+}
+sized_printable lang inst answer.Undecided is fits owed = absurd owed
 
 owed_printable :
     (chosen : Option ClassName) (lang : LanguageView) (inst : InstanceView) (given : InstanceAnswer)
@@ -322,7 +367,7 @@ owed_printable (Some SetFunction) lang inst given is fits owed = answer_printabl
 owed_printable (Some Majority) lang inst given is fits owed = answer_printable Majority 2 lang inst given (omega arith) tt tt is fits owed
 owed_printable (Some Nu4) lang inst given is fits owed = answer_printable Nu4 3 lang inst given (omega arith) tt tt is fits owed
 owed_printable (Some Affine) lang inst given is fits owed = sum_printable lang inst given is fits owed
-owed_printable (Some Maltsev) lang inst given is fits owed = undecided_printable (Some Maltsev) lang inst given fits owed
+owed_printable (Some Maltsev) lang inst given is fits owed = sized_printable lang inst given is fits owed
 
 pub instance_printable : (lang : LanguageView) (inst : InstanceView) (told : Item) → IsFileLanguage lang → IsFileInstance lang inst → IsInstanceItem lang inst told → IsPrintable told
 instance_printable lang inst told is fits item =

@@ -2,7 +2,7 @@
 use Rattle.std.proofs.Common.{◌≡◌, ℕ, List, [], Option, Some, None, refl, sym, ◌∙◌, subst}
 use Rattle.std.proofs.KnownBytes.{Appends-nil}
 use Rattle.pol_outside.specs.Faults.{Rose}
-use Rattle.pol_cli.specs.Due.{AsksReport, AreKnown, report_words, usage_line}
+use Rattle.pol_cli.specs.Due.{AreKnown, usage_line}
 use Rattle.pol_cli.specs.Due.IsDue.{usage}
 use Rattle.pol_cli.specs.Due.IsFront.{nothing, due}
 use Rattle.pol_cli.specs.declared.ended.Ended.{Ended}
@@ -20,10 +20,10 @@ unfolding told_bytes
 told_bytes-told None = tt
 told_bytes-told (Some left) = refl
 
--- what is due where a report is asked for is due at the words that ask for it
-pub due-asked : (words : List (List ℕ)) (left : Option (List ℕ)) (made shown : List ℕ) (ending : Ended) → AsksReport words → shown ≡ made → IsDueFor report_words left made ending → IsDueFor words left shown ending
-due-asked words left made shown ending asks same is =
-    subst (λ some. IsDueFor some left shown ending) (sym asks) (subst (λ text. IsDueFor report_words left text ending) (sym same) is)
+-- what is due for the words of a task is due at the words that ask for it
+pub due-asked : (words asked : List (List ℕ)) (left : Option (List ℕ)) (made shown : List ℕ) (ending : Ended) → words ≡ asked → shown ≡ made → IsDueFor asked left made ending → IsDueFor words left shown ending
+due-asked words asked left made shown ending asks same is =
+    subst (λ some. IsDueFor some left shown ending) (sym asks) (subst (λ text. IsDueFor asked left text ending) (sym same) is)
 
 -- for unknown words the usage line is due, whatever the input
 pub due-usage : (words : List (List ℕ)) (left : Option (List ℕ)) → ¬ AreKnown words → IsDueFor words left usage_line ended.Usage

@@ -1,12 +1,17 @@
 -- What a run has to write and how it ends, for the words of the command line and the bytes of the input.
-use Rattle.std.specs.Prelude.{◌≡◌, ℕ, ◌<◌, ◌≤◌, List, [], ◌∷◌, ◌++◌, length, Some, None, Ok, Err, codes}
+use Rattle.std.specs.Prelude.{◌≡◌, ℕ, ◌<◌, ◌≤◌, ◌⊎◌, List, [], ◌∷◌, ◌++◌, length, drop, Some, None, Result, Ok, Err, codes}
 use Rattle.pol_text.specs.declared.refusal.Refusal.{Refusal}
 use Rattle.pol_text.specs.declared.word.Word.TheVariants.{AfterEnd, TooLong}
 use Rattle.pol_text.specs.Refusals.{refusal_line}
 use Rattle.pol_lang.specs.Limits.{most_bytes}
 use Rattle.pol_lang.specs.Files.{Parsed}
 use Rattle.pol_lang.specs.Grammar.{parse, extra}
+use Rattle.pol_report.specs.declared.item.Item.{Item}
+use Rattle.pol_report.specs.Grammar.{items_of}
 use Rattle.pol_cli.specs.Reports.{IsReport, IsBegunReport}
+use Rattle.pol_cli.specs.Checks.{IsChecked}
+use Rattle.pol_cli.specs.declared.words.Task.{Task}
+use Rattle.pol_cli.specs.declared.words.Task.TheVariants as task
 use Rattle.pol_cli.specs.declared.ended.Ended.{Ended}
 use Rattle.pol_cli.specs.declared.ended.Ended.TheVariants as ended
 
@@ -18,17 +23,30 @@ usage_line = codes "usage: polyanna report | polyanna check | polyanna gen N\n"
 abbrev pub report_words : List (List ℕ)
 report_words = codes "report" ∷ []
 
+-- the words that ask for the verdicts on a report
+abbrev pub check_words : List (List ℕ)
+check_words = codes "check" ∷ []
+
+-- the words that ask for the task
+abbrev pub task_words : Task → List (List ℕ)
+task_words task.Report = report_words
+task_words task.Check = check_words
+
 -- the words ask for a report
 abbrev pub AsksReport : List (List ℕ) → Type 0
 AsksReport words = words ≡ report_words
 
--- the words ask for something
-abbrev pub AreKnown : List (List ℕ) → Type 0
-AreKnown words = AsksReport words
+-- the words ask for the verdicts on the report that stands behind a file
+abbrev pub AsksCheck : List (List ℕ) → Type 0
+AsksCheck words = words ≡ check_words
 
 -- the words ask for something that reads the input
 abbrev pub AskInput : List (List ℕ) → Type 0
-AskInput words = AsksReport words
+AskInput words = AsksReport words ⊎ AsksCheck words
+
+-- the words ask for something
+abbrev pub AreKnown : List (List ℕ) → Type 0
+AreKnown words = AskInput words
 
 -- the text and the ending are those of the refusal
 pub record IsRefused (refusal : Refusal) (text : List ℕ) (ending : Ended) : Type 0 where
@@ -44,6 +62,10 @@ pub record Begin (bytes : List ℕ) (found : Parsed) : Type 0 where
 pub record IsAlone (bytes : List ℕ) (found : Parsed) : Type 0 where
   pub begins : Begin bytes found
   pub nothing_more : extra bytes found.place found.line ≡ None
+
+-- the items of the report behind the file, or its first refusal
+abbrev pub items_behind : List ℕ → Parsed → Result (List Item) Refusal
+items_behind bytes found = items_of (drop found.place bytes) found.line
 
 -- the text has to be written, and the run ends so
 pub data IsDue (words : List (List ℕ)) (bytes text : List ℕ) (ending : Ended) : Type 0 where
@@ -64,6 +86,14 @@ pub data IsDue (words : List (List ℕ)) (bytes text : List ℕ) (ending : Ended
   reported : AsksReport words → (found : Parsed) → IsAlone bytes found
       → IsReport found.file text
       → ending ≡ ended.Done
+      → IsDue words bytes text ending
+  unreadable : AsksCheck words → (found : Parsed) → Begin bytes found
+      → (refusal : Refusal) → items_behind bytes found ≡ Err refusal
+      → IsRefused refusal text ending
+      → IsDue words bytes text ending
+  checked : AsksCheck words → (found : Parsed) → Begin bytes found
+      → (items : List Item) → items_behind bytes found ≡ Ok items
+      → IsChecked found.file items text ending
       → IsDue words bytes text ending
 
 -- what may stand written when a run is cut off: nothing, the beginning of a text that is due, or that of a begun report

@@ -33,6 +33,8 @@ answer_item name None given = item.Undecided name
 answer_item name (Some class) (answer.Yes values) = item.Yes name class values
 answer_item name (Some class) (answer.NoLog log) = item.NoLog name class log
 answer_item name (Some class) (answer.NoSum combination) = item.NoSum name combination
+answer_item name (Some class) (answer.YesSizes values sizes) = item.YesSizes name values sizes
+answer_item name (Some class) (answer.NoSizes sizes) = item.NoSizes name sizes
 answer_item name (Some class) answer.Undecided = item.Undecided name
 
 -- the item tells the answer that the chosen class owes the instance

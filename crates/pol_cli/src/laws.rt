@@ -1,7 +1,8 @@
 ghost use Rattle.pol_cli.specs.Laws.{ReportsAreWhole, BegunReportsAreWhole, ClassLinesAreTold};
-ghost use Rattle.pol_cli.specs.Laws.{SolvableAreSolved, LogsRefute, CombinationsRefute, OthersAreUndecided};
+ghost use Rattle.pol_cli.specs.Laws.{ItemsAreTrue, SolvableAreSolved, LogsRefute, CombinationsRefute, SizesAreTold, UndecidedIsUnchosen};
 ghost use Rattle.pol_cli.specs.Laws.{ClassItemsArePrintable, InstanceItemsArePrintable};
 ghost use Rattle.pol_cli.specs.Laws.{DueIsDecided, FilesAreReported, OthersAreRefused, FrontsOfUsage, FrontsOfReports};
+ghost use Rattle.pol_cli.specs.Laws.{ReportsAreChecked, OtherReportsAreRefused, RejectedIsTold, FrontsOfChecks, OwnReportsPass};
 ghost use Rattle.pol_cli.specs.Laws.{InputsAreRead, FaultsReadFew, ReadFaultsReadFewer, StatusTells, ZeroIsDone, UnflushedIsCutOff};
 
 /// What a reader of a report may rely on, whole or begun.
@@ -9,10 +10,12 @@ pub fn report_laws()
     ensures whole { ReportsAreWhole }
     ensures begun { BegunReportsAreWhole }
     ensures classes { ClassLinesAreTold }
+    ensures true_items { ItemsAreTrue }
     ensures solved { SolvableAreSolved }
     ensures refuted_by_log { LogsRefute }
     ensures refuted_by_sum { CombinationsRefute }
-    ensures undecided { OthersAreUndecided }
+    ensures refuted_with_sizes { SizesAreTold }
+    ensures undecided { UndecidedIsUnchosen }
     ensures printable_classes { ClassItemsArePrintable }
     ensures printable_instances { InstanceItemsArePrintable }
 {}
@@ -30,4 +33,13 @@ pub fn run_laws()
     ensures statuses { StatusTells }
     ensures zero { ZeroIsDone }
     ensures unflushed { UnflushedIsCutOff }
+{}
+
+/// What a reader of the verdicts on a report may rely on.
+pub fn check_laws()
+    ensures checked { ReportsAreChecked }
+    ensures refused { OtherReportsAreRefused }
+    ensures rejected { RejectedIsTold }
+    ensures fronts { FrontsOfChecks }
+    ensures own { OwnReportsPass }
 {}

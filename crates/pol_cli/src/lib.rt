@@ -2,11 +2,13 @@
 //! output and the exit status.
 #![tactic(auto)]
 
+mod check;
 mod ended;
 mod laws;
 mod report;
 mod top;
+mod words;
 
 pub use ended::{Ended, ending_without_words};
-pub use laws::{report_laws, run_laws};
+pub use laws::{check_laws, report_laws, run_laws};
 pub use top::run;

@@ -135,6 +135,7 @@ fn instance_item(
     classes: &Classes,
 ) -> Result<Item, NoMemory>
     requires fits { Fits lang.now inst.now }
+    requires some_variables { 1 ≤ length inst.now.variables }
     requires few_variables { length inst.now.variables ≤ 40 }
     requires few_constraints { length inst.now.constraints ≤ 256 }
     requires lines { AreLines lang.now classes.now }
@@ -154,6 +155,12 @@ fn answer_item(name: Values, chosen: Option<ClassName>, given: InstanceAnswer) -
             InstanceAnswer::Yes(values) => Item::Yes { name, kind, values },
             InstanceAnswer::NoLog(log) => Item::NoLog { name, kind, log },
             InstanceAnswer::NoSum(combination) => Item::NoSum { name, combination },
+            InstanceAnswer::YesSizes(values, sizes) => Item::YesSizes {
+                name,
+                values,
+                sizes,
+            },
+            InstanceAnswer::NoSizes(sizes) => Item::NoSizes { name, sizes },
             InstanceAnswer::Undecided => Item::Undecided { name },
         },
         None => Item::Undecided { name },

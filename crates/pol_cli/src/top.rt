@@ -1,17 +1,21 @@
-ghost use Rattle.std.specs.Prelude.{◌≡◌, ◌↔◌, ◌≤◌, ◌+◌, ◌⊎◌, length, IfOk, OnOk, IsErrOf, IsTrue};
+ghost use Rattle.std.specs.Prelude.{◌≡◌, ◌≤◌, ◌+◌, ◌⊎◌, length, IfOk, OnOk, IsErrOf};
 ghost use Rattle.std.specs.Io.KnownBytes.{IsAtEnd};
 ghost use Rattle.pol_outside.specs.Contents.{Takes, TakesAtMost};
 ghost use Rattle.pol_outside.specs.Faults.{Rose};
 ghost use Rattle.pol_text.specs.Refusals.{refusal_line};
 ghost use Rattle.pol_lang.specs.Limits.{most_bytes};
-ghost use Rattle.pol_cli.specs.Due.{AsksReport, AreKnown, AskInput, IsDue, report_words};
+ghost use Rattle.pol_lang.specs.Reading.{parsed_of};
+ghost use Rattle.pol_cli.specs.Due.{AreKnown, AskInput, Begin, IsDue, task_words, report_words, check_words};
 ghost use Rattle.pol_cli.specs.Runs.{texts_of, IsAnswer, IsDueFor, WritesDue, WritesFront, HasRead, NotTooLong, Writes};
 
 use crate::Ended;
+use crate::check::checked;
 use crate::report::report_text;
+use crate::words::{Task, asked};
 use pol_base::{NoMemory, Values};
-use pol_lang::{nothing_more, read_file};
+use pol_lang::{File, Rest, nothing_more, read_file};
 use pol_outside::{Sink, Source, TakeFault, WriteFault, read_all, write_all};
+use pol_report::read_items;
 use pol_text::{ReadFail, Refusal, Word, put_refusal};
 use std::alloc::Global;
 
@@ -21,9 +25,12 @@ const MOST_BYTES: u64 = 1 << 28;
 const USAGE: &[u8] = b"usage: polyanna report | polyanna check | polyanna gen N\n";
 
 /// Does what the words of the command line ask for. The words are those behind the program's name,
-/// and known where they are `report` alone.
+/// and known where they are `report` alone or `check` alone: the first asks for the report of the file
+/// that is the input, the second for the verdicts on the items of the report that stands behind the
+/// file.
 ///
 /// The input is read to its end before anything is written.
+#[tactic(auto, using(crate::proofs::WordLemmas::words_ask))]
 pub fn run<S: Source, O: Sink>(
     alloc: Global,
     words: &[String],
@@ -59,23 +66,13 @@ pub fn run<S: Source, O: Sink>(
         → ¬ Rose (O.faults sink.old) (O.faults sink.new)
         → IsAnswer result ⊎ (result ≡ Ended.NoMemory) }
 {
-    if !asks_report(words) {
+    let Some(task) = asked(words) else {
         return write(sink, USAGE, Ended::Usage);
-    }
-    match prepare(alloc, source) {
+    };
+    match prepare(alloc, task, source) {
         Ok((text, ended)) => write(sink, text.as_slice(), ended),
         Err(Stop::ReadFault) => Ended::ReadFault,
         Err(Stop::NoMemory) => Ended::NoMemory,
-    }
-}
-
-/// Whether the words are `report` alone.
-fn asks_report(words: &[String]) -> bool
-    ensures report { IsTrue result ↔ AsksReport (texts_of words.now) }
-{
-    match words {
-        [word] => word.as_bytes() == b"report".as_slice(),
-        _ => false,
     }
 }
 
@@ -109,8 +106,8 @@ impl From<NoMemory> for Stop {
 }
 
 /// Reads the input to its end, and makes the text that is due for it.
-fn prepare<S: Source>(alloc: Global, source: &mut S) -> Result<(Values, Ended), Stop>
-    ensures due { IfOk result (λ made. IsDueFor report_words (S.left source.old) made.0 made.1) }
+fn prepare<S: Source>(alloc: Global, task: Task, source: &mut S) -> Result<(Values, Ended), Stop>
+    ensures due { IfOk result (λ made. IsDueFor (task_words task) (S.left source.old) made.0 made.1) }
     ensures answer { IfOk result (λ made. IsAnswer made.1) }
     ensures read { IfOk result (λ made. HasRead made.1 (S.left source.old) (S.left source.new)) }
     ensures taken { OnOk result (IsAtEnd (S.left source.new)
@@ -123,7 +120,7 @@ fn prepare<S: Source>(alloc: Global, source: &mut S) -> Result<(Values, Ended), 
     ensures calm { ¬ IsErrOf result Stop.ReadFault → S.faults source.new ≡ S.faults source.old }
 {
     match read_all(alloc, source, MOST_BYTES) {
-        Ok(bytes) => Ok(report(alloc, bytes.as_slice())?),
+        Ok(bytes) => Ok(made(alloc, task, bytes.as_slice())?),
         Err(TakeFault::TooLong) => Ok(refused(
             alloc,
             Refusal {
@@ -136,10 +133,10 @@ fn prepare<S: Source>(alloc: Global, source: &mut S) -> Result<(Values, Ended), 
     }
 }
 
-/// What `report` writes for the input, and how it ends.
-fn report(alloc: Global, bytes: &[u8]) -> Result<(Values, Ended), NoMemory>
+/// What the task writes for the input, and how it ends.
+fn made(alloc: Global, task: Task, bytes: &[u8]) -> Result<(Values, Ended), NoMemory>
     requires few { length bytes.now ≤ most_bytes }
-    ensures due { IfOk result (λ made. IsDue report_words bytes.now made.0 made.1) }
+    ensures due { IfOk result (λ made. IsDue (task_words task) bytes.now made.0 made.1) }
     ensures answer { IfOk result (λ made. IsAnswer made.1) }
     ensures word { IfOk result (λ made. NotTooLong made.1) }
 {
@@ -148,9 +145,40 @@ fn report(alloc: Global, bytes: &[u8]) -> Result<(Values, Ended), NoMemory>
         Err(ReadFail::Refused(refusal)) => return refused(alloc, refusal),
         Err(ReadFail::NoMemory) => return Err(NoMemory),
     };
+    match task {
+        Task::Report => report(alloc, bytes, &file, rest),
+        Task::Check => check(alloc, bytes, &file, rest),
+    }
+}
+
+/// The report of the file, where no significant line stands behind it.
+fn report(alloc: Global, bytes: &[u8], file: &File, rest: Rest) -> Result<(Values, Ended), NoMemory>
+    requires begins { Begin bytes.now (parsed_of (file.now, rest)) }
+    requires place { rest.place ≤ length bytes.now }
+    requires line { rest.line ≤ most_bytes + 1 }
+    ensures due { IfOk result (λ made. IsDue report_words bytes.now made.0 made.1) }
+    ensures answer { IfOk result (λ made. IsAnswer made.1) }
+    ensures word { IfOk result (λ made. NotTooLong made.1) }
+{
     match nothing_more(bytes, rest) {
-        Ok(()) => Ok((report_text(alloc, &file)?, Ended::Done)),
+        Ok(()) => Ok((report_text(alloc, file)?, Ended::Done)),
         Err(refusal) => refused(alloc, refusal),
+    }
+}
+
+/// The verdicts on the items of the report that stands behind the file.
+fn check(alloc: Global, bytes: &[u8], file: &File, rest: Rest) -> Result<(Values, Ended), NoMemory>
+    requires begins { Begin bytes.now (parsed_of (file.now, rest)) }
+    requires place { rest.place ≤ length bytes.now }
+    requires line { rest.line ≤ most_bytes + 1 }
+    ensures due { IfOk result (λ made. IsDue check_words bytes.now made.0 made.1) }
+    ensures answer { IfOk result (λ made. IsAnswer made.1) }
+    ensures word { IfOk result (λ made. NotTooLong made.1) }
+{
+    match read_items(alloc, &bytes[rest.place..], rest.line) {
+        Ok(items) => checked(alloc, file, &items),
+        Err(ReadFail::Refused(refusal)) => refused(alloc, refusal),
+        Err(ReadFail::NoMemory) => Err(NoMemory),
     }
 }
 

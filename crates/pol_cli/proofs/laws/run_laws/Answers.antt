@@ -1,9 +1,10 @@
+use Rattle.pol_checker.proofs.VerdictLemmas.{verdict_one}
 use Rattle.pol_cli.proofs.DueLaws.{due_decided, files_reported, others_refused, fronts_of_usage, fronts_of_reports, inputs_read}
 use Rattle.pol_cli.proofs.StatusLaws.{faults_read_few, read_faults_read_fewer, status_tells, zero_done, unflushed_cut_off}
 use Rattle.pol_cli.proofs.laws.run_laws.Goals as goal
 
 pub returns-clause-decided : goal.returns-clause-decided
-returns-clause-decided c = due_decided
+returns-clause-decided c = due_decided verdict_one
 
 pub returns-clause-reported : goal.returns-clause-reported
 returns-clause-reported c = files_reported
