@@ -3,6 +3,7 @@ ghost use Rattle.pol_relation.specs.Instances.{Fits};
 ghost use Rattle.pol_optable.specs.Choices.{AreLines};
 
 use crate::harness::lines;
+use crate::sizes::are_sizes;
 use pol_base::{ClassName, Domain, NoMemory, cells, digit};
 use pol_classify::classify;
 use pol_lang::{File, read_file};
@@ -131,6 +132,24 @@ fn instances_of_affine_operations(rt: HostRuntime) -> Result<(), Fail> {
     Ok(())
 }
 
+#[test]
+fn instances_of_maltsev_operations(rt: HostRuntime) -> Result<(), Fail> {
+    let languages: [(&[u8], usize); 2] = [
+        (
+            b"polyanna 1|domain 3|relation swap 2|tuple 0 1|tuple 1 0|tuple 2 2|relation two 1|tuple 2|relation parity 3|tuple 0 0 0|tuple 0 1 1|tuple 1 0 1|tuple 1 1 0|end|",
+            13,
+        ),
+        (
+            b"polyanna 1|domain 4|relation one 1|tuple 1|relation sum 3|tuple 0 0 0|tuple 0 1 3|tuple 0 2 2|tuple 0 3 1|tuple 1 0 3|tuple 1 1 2|tuple 1 2 1|tuple 1 3 0|tuple 2 0 2|tuple 2 1 1|tuple 2 2 0|tuple 2 3 3|tuple 3 0 1|tuple 3 1 0|tuple 3 2 3|tuple 3 3 2|end|",
+            4,
+        ),
+    ];
+    for (language, triples) in languages {
+        assert_answers(&rt, rt.alloc(), language, ClassName::Maltsev, triples)?;
+    }
+    Ok(())
+}
+
 /// The file that is written with a bar for each LF.
 fn read(rt: &impl Abort, alloc: Global, text: &[u8]) -> Result<File, Fail> {
     let bytes = lines(alloc, text)?;
@@ -140,8 +159,8 @@ fn read(rt: &impl Abort, alloc: Global, text: &[u8]) -> Result<File, Fail> {
 }
 
 /// Each instance of three variables with at most two constraints of the language, or with three of the
-/// first so many, is answered by the class: with a solution, or with a log or a combination where the
-/// list of all assignments has none.
+/// first so many, is answered by the class: with a solution, or with No where the list of all assignments
+/// has none.
 fn assert_answers(
     rt: &impl Abort,
     alloc: Global,
@@ -236,8 +255,8 @@ fn add_constraint(
     Ok(())
 }
 
-/// Whether the answer is a solution, or a valid log or combination where the list of all assignments has
-/// no solution.
+/// Whether the answer is a solution, or a valid log, a valid combination or No with sizes where the list
+/// of all assignments has no solution, and sizes are those that are counted over the list.
 fn is_answered(
     alloc: Global,
     lang: &Language,
@@ -256,6 +275,13 @@ fn is_answered(
         }
         InstanceAnswer::NoSum(combination) => {
             check_combination(lang, inst, &combination).is_ok() && !has_solution(lang, inst)
+        }
+        InstanceAnswer::YesSizes(values, sizes) => {
+            is_solution(lang, inst, values.as_slice())
+                && are_sizes(alloc, lang, inst, sizes.as_slice())?
+        }
+        InstanceAnswer::NoSizes(sizes) => {
+            !has_solution(lang, inst) && are_sizes(alloc, lang, inst, sizes.as_slice())?
         }
         InstanceAnswer::Undecided => false,
     })

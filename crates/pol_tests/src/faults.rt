@@ -13,7 +13,7 @@ const USAGE: &[u8] = b"usage: polyanna report | polyanna check | polyanna gen N\
 #[test]
 fn words_that_are_no_command(rt: HostRuntime) -> Result<(), Fail> {
     let alloc = rt.alloc();
-    let lines: [&[&str]; 12] = [
+    let lines: [&[&str]; 13] = [
         &[],
         &[""],
         &["Report"],
@@ -21,7 +21,8 @@ fn words_that_are_no_command(rt: HostRuntime) -> Result<(), Fail> {
         &["report", "extra"],
         &["report", "report"],
         &["report extra"],
-        &["check"],
+        &["Check"],
+        &["check", "extra"],
         &["gen"],
         &["gen", "12x"],
         &["gen", "1234567890"],

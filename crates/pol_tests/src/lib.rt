@@ -4,6 +4,8 @@
 #[cfg(test)]
 mod answers;
 #[cfg(test)]
+mod checks;
+#[cfg(test)]
 mod faults;
 #[cfg(test)]
 mod harness;
@@ -11,3 +13,7 @@ mod harness;
 mod refusals;
 #[cfg(test)]
 mod reports;
+#[cfg(test)]
+mod sizes;
+#[cfg(test)]
+mod tables;

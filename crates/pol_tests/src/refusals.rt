@@ -4,6 +4,53 @@ use pol_text::{put_number, put_spaced};
 use std::alloc::Global;
 use std::test::Fail;
 
+/// Each beginning of a file that is shorter than its last line, by ranges of lengths.
+#[test]
+fn beginnings_of_a_file(rt: HostRuntime) -> Result<(), Fail> {
+    let alloc = rt.alloc();
+    let file = lines(
+        alloc,
+        b"polyanna 1|domain 2|relation neq 2|tuple 0 1|tuple 1 0|instance tri x y z|constraint neq x y|constraint neq y z|constraint neq z x|end|",
+    )?;
+    let cases: [(u32, u32, &[u8]); 28] = [
+        (0, 7, b"refused 1 NoHeader|"),
+        (8, 9, b"refused 1 BadVersion|"),
+        (10, 11, b"refused 2 Ended|"),
+        (12, 18, b"refused 2 BadLine|"),
+        (19, 20, b"refused 3 Ended|"),
+        (21, 33, b"refused 3 BadLine|"),
+        (34, 35, b"refused 4 Ended|"),
+        (36, 39, b"refused 4 BadLine|"),
+        (40, 43, b"refused 4 ShortTuple|"),
+        (44, 45, b"refused 5 Ended|"),
+        (46, 49, b"refused 5 BadLine|"),
+        (50, 53, b"refused 5 ShortTuple|"),
+        (54, 55, b"refused 6 Ended|"),
+        (56, 68, b"refused 6 BadLine|"),
+        (69, 74, b"refused 7 Ended|"),
+        (75, 85, b"refused 7 BadLine|"),
+        (86, 87, b"refused 7 UnknownRelation|"),
+        (88, 91, b"refused 7 BadArity|"),
+        (92, 93, b"refused 8 Ended|"),
+        (94, 104, b"refused 8 BadLine|"),
+        (105, 106, b"refused 8 UnknownRelation|"),
+        (107, 110, b"refused 8 BadArity|"),
+        (111, 112, b"refused 9 Ended|"),
+        (113, 123, b"refused 9 BadLine|"),
+        (124, 125, b"refused 9 UnknownRelation|"),
+        (126, 129, b"refused 9 BadArity|"),
+        (130, 131, b"refused 10 Ended|"),
+        (132, 133, b"refused 10 BadLine|"),
+    ];
+    for (first, last, refusal) in cases {
+        for length in first..=last {
+            let front = file.as_slice().get(..length as usize).ok_or("a beginning")?;
+            assert_written(&rt, alloc, front, refusal)?;
+        }
+    }
+    Ok(())
+}
+
 #[test]
 fn refusals_of_languages(rt: HostRuntime) -> Result<(), Fail> {
     let alloc = rt.alloc();

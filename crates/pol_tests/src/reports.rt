@@ -1,4 +1,5 @@
 use crate::harness::{assert_written, lines};
+use pol_base::Values;
 use std::test::Fail;
 
 #[test]
@@ -95,6 +96,30 @@ fn reports_of_further_classes(rt: HostRuntime) -> Result<(), Fail> {
     Ok(())
 }
 
+/// The sizes are counted by hand, over the list of all assignments.
+#[test]
+fn reports_of_maltsev_languages(rt: HostRuntime) -> Result<(), Fail> {
+    let alloc = rt.alloc();
+    let cases: [(&[u8], &[u8]); 3] = [
+        (
+            b"polyanna 1|domain 3|relation parity 3|tuple 0 0 0|tuple 0 1 1|tuple 1 0 1|tuple 1 1 0|relation swap 2|tuple 0 1|tuple 1 0|tuple 2 2|relation two 1|tuple 2|instance q a b c|constraint parity a b c|constraint swap a b|constraint parity c c c|instance r e|constraint two e|end|",
+            b"polyanna-report 1|class constant none|class semilattice none|class set-function none|class majority none|class nu4 none|class affine none|class maltsev 0 1 2 1 0 0 0 0 0 1 0 1 0 1 2 1 1 1 2 0 0 1 2 1 0 1 2|instance q no maltsev|sizes 27 10 7 0|instance r yes maltsev 2|sizes 9 1|end|",
+        ),
+        (
+            b"polyanna 1|domain 3|relation parity 3|tuple 0 0 0|tuple 0 1 1|tuple 1 0 1|tuple 1 1 0|relation swap 2|tuple 0 1|tuple 1 0|tuple 2 2|relation two 1|tuple 2|relation never 1|relation low 6|tuple 0 0 0 0 0 0|tuple 1 1 1 1 1 1|relation flip 2|tuple 0 1|tuple 1 0|instance a x|constraint never x|instance b x y|constraint low x x x x x x|constraint swap x y|constraint two y|instance c x|constraint flip x x|constraint two x|instance d x y|constraint low x x x x x x|constraint two y|constraint parity x x x|end|",
+            b"polyanna-report 1|class constant none|class semilattice none|class set-function none|class majority none|class nu4 none|class affine none|class maltsev 0 1 2 1 0 0 0 0 0 1 0 1 0 1 2 1 1 1 2 0 0 1 2 1 0 1 2|instance a no maltsev|sizes 9 0|instance b no maltsev|sizes 18 13 6 0|instance c no maltsev|sizes 9 0 0|instance d yes maltsev 0 2|sizes 18 13 5 2|end|",
+        ),
+        (
+            b"polyanna 1|domain 4|relation sum 3|tuple 0 0 0|tuple 0 1 3|tuple 0 2 2|tuple 0 3 1|tuple 1 0 3|tuple 1 1 2|tuple 1 2 1|tuple 1 3 0|tuple 2 0 2|tuple 2 1 1|tuple 2 2 0|tuple 2 3 3|tuple 3 0 1|tuple 3 1 0|tuple 3 2 3|tuple 3 3 2|relation one 1|tuple 1|instance a x y z|constraint sum x y z|constraint one x|constraint one y|constraint one z|instance b x y z|constraint sum x y z|constraint one x|constraint one y|end|",
+            b"polyanna-report 1|class constant none|class semilattice none|class set-function none|class majority none|class nu4 none|class affine none|class maltsev 0 1 2 3 3 0 1 2 2 3 0 1 1 2 3 0 1 2 3 0 0 1 2 3 3 0 1 2 2 3 0 1 2 3 0 1 1 2 3 0 0 1 2 3 3 0 1 2 3 0 1 2 2 3 0 1 1 2 3 0 0 1 2 3|instance a no maltsev|sizes 48 36 21 3 0|instance b yes maltsev 1 1 2|sizes 48 36 21 3|end|",
+        ),
+    ];
+    for (input, report) in cases {
+        assert_written(&rt, alloc, lines(alloc, input)?.as_slice(), report)?;
+    }
+    Ok(())
+}
+
 #[test]
 fn answers_at_the_limits(rt: HostRuntime) -> Result<(), Fail> {
     let alloc = rt.alloc();
@@ -135,4 +160,25 @@ fn an_empty_relation_behind_255_constraints(rt: HostRuntime) -> Result<(), Fail>
         input.as_slice(),
         b"polyanna-report 1|class constant none|class semilattice none|class set-function none|class majority 0 0 0 1 0 1 1 1|class nu4 0 0 0 0 0 0 0 1 0 1 1 1 1 1 1 1|class affine 0 1 1 0 1 0 0 1|class maltsev 0 1 0 0 1 1 0 1|instance z no majority 3|c 255 1 0 0 0|c 255 1 0 1 0|v 0 0 2 0 1|end|",
     )
+}
+
+/// The exchange leaves 9 triples at x and 3 at y of 18, however often it is asked for.
+#[test]
+fn sizes_of_the_same_constraint_256_times(rt: HostRuntime) -> Result<(), Fail> {
+    let alloc = rt.alloc();
+    let mut input = lines(
+        alloc,
+        b"polyanna 1|domain 3|relation parity 3|tuple 0 0 0|tuple 0 1 1|tuple 1 0 1|tuple 1 1 0|relation swap 2|tuple 0 1|tuple 1 0|tuple 2 2|relation two 1|tuple 2|instance s x y|",
+    )?;
+    let mut text = Values::from_slice(
+        alloc,
+        b"polyanna-report 1|class constant none|class semilattice none|class set-function none|class majority none|class nu4 none|class affine none|class maltsev 0 1 2 1 0 0 0 0 0 1 0 1 0 1 2 1 1 1 2 0 0 1 2 1 0 1 2|instance s yes maltsev 0 1|sizes 18",
+    )?;
+    for _ in 0..256 {
+        input.append(b"constraint swap x y\n")?;
+        text.append(b" 12")?;
+    }
+    input.append(b"end\n")?;
+    text.append(b"|end|")?;
+    assert_written(&rt, alloc, input.as_slice(), text.as_slice())
 }
