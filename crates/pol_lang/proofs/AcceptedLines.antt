@@ -7,10 +7,10 @@ use Rattle.std.proofs.lemmas.List.{get_or_default}
 use Rattle.std.proofs.lemmas.List.Elements.{All-nil, All-cons}
 use Rattle.std.proofs.lemmas.List.Quantifiers.{all_pairs_push}
 use Rattle.pol_text.specs.Lines.{number_of, token_at, is_name}
-use Rattle.pol_text.specs.Reading.{begins_with, unless}
+use Rattle.pol_text.specs.Reading.{begins_with, unless, end_line}
 use Rattle.pol_text.proofs.ReadingLemmas.{two_tokens, begins_with-first, unless-ok, after_number-ok, one_token, three_tokens, after_values-ok, PassedValue}
 use Rattle.pol_text.specs.declared.word.Word.TheVariants.{NoHeader, BadVersion, BadDomain, BadLine, BadNumber, BadName, RepeatedName, BadArity, TooManyRelations, SubsetLimit, ValueOutside, TooManyTuples, TripleLimit, ShortTuple, LongTuple, TooManyInstances, TooManyVariables, UnknownVariable, TooManyConstraints, UnknownRelation}
-use Rattle.pol_lang.specs.Grammar.{header_line, domain_line, end_line, begun_relation, relation_line, values_of, with_tuple, tuple_line, names_of_tokens, after_names, instance_line, scope_of, with_scope, constraint_line, in_language}
+use Rattle.pol_lang.specs.Grammar.{header_line, domain_line, begun_relation, relation_line, values_of, with_tuple, tuple_line, names_of_tokens, after_names, instance_line, scope_of, with_scope, constraint_line, in_language}
 use Rattle.pol_base.specs.Tuples.{IsDomain, IsTuple}
 use Rattle.pol_relation.specs.Relations.{LanguageView, names_of, with_relation, last_of, with_row, with_last_row, IsRelation, relation_of}
 use Rattle.pol_relation.specs.Weights.{subset_weight_of, weight_of, most_weight}

@@ -3,8 +3,8 @@ use Rattle.std.proofs.Common.{ℕ, ◌≤◌, [], ◌≡◌, ◌+◌, Bool, true
 use Rattle.std.specs.List.{AllByRecursion}
 use Rattle.pol_lang.specs.Files.{Parsed, FileView}
 use Rattle.pol_text.specs.Lines.{LineView, lines_of, significant_lines}
-use Rattle.pol_text.specs.Reading.{after_line, begins_with}
-use Rattle.pol_lang.specs.Grammar.{entry_line, end_line, rest_of_file, header_line, domain_line, begun_file, file_from_domain, file_of, parse}
+use Rattle.pol_text.specs.Reading.{after_line, begins_with, end_line}
+use Rattle.pol_lang.specs.Grammar.{entry_line, rest_of_file, header_line, domain_line, begun_file, file_from_domain, file_of, parse}
 use Rattle.pol_text.proofs.LinePlaces.{IsWithin, total_length-lines_of, significant_within}
 use Rattle.pol_text.proofs.ReadingLemmas.{Passed, after_line-ok}
 use Rattle.pol_text.proofs.LineLemmas.{length-lines_of-le}

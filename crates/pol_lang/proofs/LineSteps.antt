@@ -1,10 +1,10 @@
 -- Entry lines that are accepted one behind another, and `end`: just these are the rest of a file, behind what was read so far.
 use Rattle.std.proofs.Common.{◌≡◌, ℕ, Bool, true, false, cond, List, [], ◌∷◌, ◌++◌, ◌+◌, Ok, map, codes, refl, sym, ap, subst}
 use Rattle.pol_text.specs.Lines.{LineView}
-use Rattle.pol_text.specs.Reading.{begins_with, after_line}
+use Rattle.pol_text.specs.Reading.{begins_with, after_line, end_line}
 use Rattle.pol_text.proofs.ReadingLemmas.{after_line-ok}
 use Rattle.pol_lang.specs.Files.{FileView, Parsed}
-use Rattle.pol_lang.specs.Grammar.{entry_line, end_line, rest_of_file}
+use Rattle.pol_lang.specs.Grammar.{entry_line, rest_of_file}
 use Rattle.pol_lang.proofs.AcceptedLines.{end_line-writes}
 
 -- the line is an entry with which the file goes on

@@ -5,10 +5,10 @@ use Rattle.pol_text.specs.declared.word.Word.{Word}
 use Rattle.pol_text.specs.declared.word.Word.TheVariants.{BadLine, BadNumber, BadName, RepeatedName, ValueOutside, TooManyInstances, TooManyVariables, TooLong}
 use Rattle.pol_text.specs.declared.refusal.Refusal.{Refusal}
 use Rattle.pol_text.specs.Lines.{LineView, significant_lines, lines_of, number_of, token_at, is_name}
-use Rattle.pol_text.specs.Reading.{unless, after_number, after_values, after_line}
+use Rattle.pol_text.specs.Reading.{unless, after_number, after_values, after_line, end_line}
 use Rattle.pol_relation.specs.Relations.{LanguageView}
 use Rattle.pol_lang.specs.Files.{FileView, Parsed, with_instance, instance_names}
-use Rattle.pol_lang.specs.Grammar.{header_line, domain_line, begun_relation, relation_line, values_of, with_tuple, tuple_line, language_line, names_of_tokens, after_names, instance_line, scope_of, with_scope, constraint_line, in_language, entry_line, end_line, rest_of_file, file_from_domain, file_of, parse}
+use Rattle.pol_lang.specs.Grammar.{header_line, domain_line, begun_relation, relation_line, values_of, with_tuple, tuple_line, language_line, names_of_tokens, after_names, instance_line, scope_of, with_scope, constraint_line, in_language, entry_line, rest_of_file, file_from_domain, file_of, parse}
 
 -- a word for a text
 abbrev IsForTexts : Word → Type 0

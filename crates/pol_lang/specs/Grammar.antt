@@ -5,7 +5,7 @@ use Rattle.pol_base.specs.Lists.{is_among, place_in}
 use Rattle.pol_relation.specs.Relations.{LanguageView, names_of, last_of, with_last_row, relation_of}
 use Rattle.pol_relation.specs.Weights.{subset_weight_of, weight_of, most_weight}
 use Rattle.pol_text.specs.Lines.{LineView, lines_of, significant_lines, token_at, number_of, is_name}
-use Rattle.pol_text.specs.Reading.{unless, after_number, after_values, after_line, begins_with}
+use Rattle.pol_text.specs.Reading.{unless, after_number, after_values, after_line, begins_with, end_line}
 use Rattle.pol_text.specs.declared.refusal.Refusal.{Refusal}
 use Rattle.pol_text.specs.declared.word.Word.{Word}
 use Rattle.pol_text.specs.declared.word.Word.TheVariants.{NoHeader, BadVersion, BadDomain, BadLine, BadNumber, BadName, RepeatedName, BadArity, ValueOutside, ShortTuple, LongTuple, TooManyRelations, TooManyTuples, TooManyInstances, TooManyVariables, TooManyConstraints, TripleLimit, SubsetLimit, UnknownRelation, UnknownVariable, Ended}
@@ -154,10 +154,6 @@ entry_line file tokens =
     (if begins_with (codes "constraint") tokens
     then unless (nat_lt 0 (length file.instances)) BadLine (constraint_line file tokens)
     else unless (length file.instances == 0) BadLine (in_language file (language_line file.language tokens)))
-
--- `end` alone
-abbrev pub end_line : List (List ℕ) → Result ℕ Word
-end_line tokens = unless (length tokens == 1) BadLine (Ok 1)
 
 -- the lines behind the `domain` line: what was read so far, and the line for an early end
 abbrev pub rest_of_file : FileView → ℕ → List LineView → Result Parsed Refusal

@@ -1,16 +1,10 @@
 -- What a call that reads a line of a file has to do with the definition of what it reads.
 use Rattle.std.specs.Prelude.{◌≡◌, ⊤, Result, Ok, Err}
+use Rattle.pol_text.specs.declared.refusal.LineFail.{LineFail}
+use Rattle.pol_text.specs.declared.refusal.LineFail.TheVariants as line_fail
 use Rattle.pol_text.specs.declared.word.Word.{Word}
 use Rattle.pol_lang.specs.Files.{FileView, Parsed}
 use Rattle.pol_lang.specs.declared.file.Rest.{Rest}
-use Rattle.pol_lang.specs.declared.line_fail.LineFail.{LineFail}
-use Rattle.pol_lang.specs.declared.line_fail.LineFail.TheVariants as line_fail
-
--- the call gives what the tokens are read as, unless memory ran out
-abbrev pub Gives : {X : Type 0} → Result X LineFail → Result X Word → Type 0
-Gives (Ok x) read = read ≡ Ok x
-Gives (Err (line_fail.Refused word)) read = read ≡ Err word
-Gives (Err line_fail.NoMemory) read = ⊤
 
 -- the call left what the line makes of what was there, unless memory ran out
 abbrev pub Changes : {X Y : Type 0} → Result X LineFail → Y → Result Y Word → Type 0

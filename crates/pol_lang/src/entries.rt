@@ -1,15 +1,14 @@
 ghost use Rattle.std.specs.Prelude.{◌≡◌, drop};
 ghost use Rattle.pol_text.specs.Lines.{token_at};
-ghost use Rattle.pol_text.specs.Reading.{begins_with, Judges};
-ghost use Rattle.pol_lang.specs.Grammar.{header_line, domain_line, end_line, entry_line};
+ghost use Rattle.pol_text.specs.Reading.{end_line, Judges};
+ghost use Rattle.pol_lang.specs.Grammar.{header_line, domain_line, entry_line};
 ghost use Rattle.pol_lang.specs.Reading.{Changes};
 
 use crate::File;
 use crate::instance_lines::{constraint_line, instance_line};
 use crate::language_lines::language_line;
-use crate::line_fail::LineFail;
 use pol_base::Domain;
-use pol_text::{Line, Tokens, Word, number};
+use pol_text::{Line, LineFail, Tokens, Word, number};
 use std::alloc::Global;
 
 /// The token at a place, and no byte where there is none.
@@ -40,18 +39,12 @@ pub(crate) fn behind_name<'a>(line: &Line<'a>) -> Tokens<'a>
     tokens
 }
 
-pub(crate) fn begins_with(line: &Line<'_>, keyword: &[u8]) -> bool
-    ensures begins { result ≡ begins_with keyword.now line.now.tokens }
-{
-    token(line, 0) == keyword
-}
-
 /// `polyanna 1`, which gives the version.
 #[tactic(auto, unfolding(crate::specs::Grammar::header_line))]
 pub(crate) fn header_line(line: &Line<'_>) -> Result<u32, Word>
     ensures judged { Judges result (header_line line.now.tokens) }
 {
-    if !begins_with(line, b"polyanna") {
+    if !line.begins_with(b"polyanna") {
         return Err(Word::NoHeader);
     }
     if line.count() != 2 {
@@ -68,7 +61,7 @@ pub(crate) fn header_line(line: &Line<'_>) -> Result<u32, Word>
 pub(crate) fn domain_line(line: &Line<'_>) -> Result<Domain, Word>
     ensures judged { Judges result (domain_line line.now.tokens) }
 {
-    if !begins_with(line, b"domain") {
+    if !line.begins_with(b"domain") {
         return Err(Word::BadLine);
     }
     if line.count() != 2 {
@@ -96,11 +89,11 @@ pub(crate) fn end_line(line: &Line<'_>) -> Result<u32, Word>
 pub(crate) fn entry_line(alloc: Global, file: &mut File, line: &Line<'_>) -> Result<(), LineFail>
     ensures changes { Changes result file.new (entry_line file.old line.now.tokens) }
 {
-    if begins_with(line, b"instance") {
+    if line.begins_with(b"instance") {
         return instance_line(alloc, file, line);
     }
     let instances = file.instances();
-    if begins_with(line, b"constraint") {
+    if line.begins_with(b"constraint") {
         if instances == 0 {
             return Err(LineFail::Refused(Word::BadLine));
         }

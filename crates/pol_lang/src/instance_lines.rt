@@ -6,17 +6,16 @@ ghost use Rattle.pol_text.specs.Lines.{is_name};
 ghost use Rattle.pol_lang.specs.Files.{IsFileInstance, instance_names, begun_instance, last_instance};
 ghost use Rattle.pol_lang.specs.Limits.{most_variables};
 ghost use Rattle.pol_lang.specs.Grammar.{instance_line, constraint_line, after_names, names_of_tokens, scope_of, with_scope};
-ghost use Rattle.pol_text.specs.Reading.{unless};
+ghost use Rattle.pol_text.specs.Reading.{unless, Gives};
 ghost use Rattle.pol_base.specs.Lists.{is_among};
-ghost use Rattle.pol_lang.specs.Reading.{Gives, Changes};
+ghost use Rattle.pol_lang.specs.Reading.{Changes};
 
 use crate::File;
 use crate::entries::{behind_name, token};
 use crate::limits::{MOST_CONSTRAINTS, MOST_INSTANCES, MOST_VARIABLES};
-use crate::line_fail::LineFail;
 use pol_base::Numbers;
 use pol_relation::{AddFault, Instance, Language};
-use pol_text::{Line, Tokens, Word, is_name};
+use pol_text::{Line, LineFail, Tokens, Word, is_name};
 use std::alloc::Global;
 
 /// `instance NAME X1 .. Xn`, which begins an instance without constraints.

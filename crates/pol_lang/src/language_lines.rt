@@ -4,15 +4,15 @@ ghost use Rattle.pol_relation.specs.Relations.{last_of, names_of};
 ghost use Rattle.pol_base.specs.Lists.{is_among};
 ghost use Rattle.pol_text.specs.Lines.{is_name};
 ghost use Rattle.pol_lang.specs.Grammar.{begun_relation, relation_line, tuple_line, with_tuple, language_line, in_language, values_of};
-ghost use Rattle.pol_lang.specs.Reading.{Gives, Changes};
+ghost use Rattle.pol_text.specs.Reading.{Gives};
+ghost use Rattle.pol_lang.specs.Reading.{Changes};
 
 use crate::File;
-use crate::entries::{begins_with, behind_keyword, token};
+use crate::entries::{behind_keyword, token};
 use crate::limits::{MOST_PLACES, MOST_RELATIONS, MOST_TUPLES, MOST_WEIGHT};
-use crate::line_fail::LineFail;
 use pol_base::{Domain, Values};
 use pol_relation::{Language, Relation};
-use pol_text::{Line, Tokens, Word, is_name, number};
+use pol_text::{Line, LineFail, Tokens, Word, is_name, number};
 use std::alloc::Global;
 
 /// A relation, or a tuple of the last relation.
@@ -22,10 +22,10 @@ pub(crate) fn language_line(alloc: Global, file: &mut File, line: &Line<'_>) -> 
     ensures changes { Changes result file.new
         (in_language file.old (language_line file.old.language line.now.tokens)) }
 {
-    if begins_with(line, b"relation") {
+    if line.begins_with(b"relation") {
         return relation_line(alloc, file, line);
     }
-    if begins_with(line, b"tuple") && 0 < file.lang().len() {
+    if line.begins_with(b"tuple") && 0 < file.lang().len() {
         return tuple_line(alloc, file, line);
     }
     Err(LineFail::Refused(Word::BadLine))

@@ -6,7 +6,6 @@ mod file;
 mod instance_lines;
 mod language_lines;
 mod limits;
-mod line_fail;
 mod reading;
 mod writing;
 

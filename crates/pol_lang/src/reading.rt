@@ -7,10 +7,9 @@ ghost use Rattle.pol_lang.specs.Spelling.{IsSpelled};
 ghost use Rattle.pol_text.specs.Reading.{Reads};
 ghost use Rattle.pol_lang.specs.Reading.{parsed_of};
 
-use crate::entries::{begins_with, domain_line, end_line, entry_line, header_line};
-use crate::line_fail::LineFail;
+use crate::entries::{domain_line, end_line, entry_line, header_line};
 use crate::{File, Rest};
-use pol_text::{Lines, ReadFail, Refusal, Word, count_lines, significant};
+use pol_text::{LineFail, Lines, ReadFail, Refusal, Word, count_lines, significant};
 use std::alloc::Global;
 
 /// The file that the text begins with, and where it ends there. What stands behind is not looked at.
@@ -54,7 +53,7 @@ fn rest_of_file(
     ensures reads { Reads parsed_of result (rest_of_file file (length (lines_of bytes.now) + 1) lines.entry) }
 {
     while let Some(line) = lines.next() {
-        if begins_with(&line, b"end") {
+        if line.begins_with(b"end") {
             return match end_line(&line) {
                 Ok(_) => Ok((
                     file,
