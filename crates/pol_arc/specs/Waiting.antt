@@ -25,4 +25,5 @@ pub record KeepsDone (lang : LanguageView) (inst : InstanceView)
 pub record IsTouched (inst : InstanceView) (x : ℕ) (waits new_waits : List Bool) : Type 0 where
   pub long : length new_waits ≡ length waits
   pub before : (c : ℕ) → c < length inst.constraints → IsDone new_waits c → IsDone waits c
-  pub apart : (c : ℕ) → c < length inst.constraints → IsDone new_waits c → ¬ Contains (constraint_of inst c).scope x
+  pub apart : (c : ℕ) → c < length inst.constraints → IsDone new_waits c
+      → ¬ Contains (constraint_of inst c).scope x

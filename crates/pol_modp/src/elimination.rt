@@ -47,7 +47,7 @@ pub fn eliminate(alloc: Global, p: u8, n: u32, equations: &[Equation]) -> Result
 }
 
 /// The equation, with multiples of the rows taken away.
-pub fn reduced(
+pub(crate) fn reduced(
     alloc: Global,
     p: u8,
     n: u32,
@@ -67,7 +67,7 @@ pub fn reduced(
 }
 
 /// The reduced row as one more of the echelon, with a 1 at its pivot.
-pub fn normalized(p: u8, row: Vec<u8>, pivot: u32, source: u32) -> PivotRow
+pub(crate) fn normalized(p: u8, row: Vec<u8>, pivot: u32, source: u32) -> PivotRow
     requires prime { IsSmallPrime p }
     requires below { All (λ v. v < p) row.items }
     requires known { pivot < length row.items }

@@ -49,7 +49,7 @@ impl Classes {
     }
 
     /// Whether a table of the class was found.
-    fn has_table(&self, class: ClassName) -> bool
+    pub fn has_table(&self, class: ClassName) -> bool
         ensures table { IsTrue result ↔ HasTable self.now class }
     {
         match class {
