@@ -20,131 +20,138 @@ use std::test::Fail;
 /// writes in base three, the last place first.
 type Candidate = Option<(u32, u32)>;
 
+const CONSTANT: [(&[u8], usize); 2] = [
+    (
+        b"polyanna 1|domain 2|relation never 1|relation or 2|tuple 0 1|tuple 1 0|tuple 1 1|end|",
+        13,
+    ),
+    (
+        b"polyanna 1|domain 3|relation le 2|tuple 0 0|tuple 0 1|tuple 0 2|tuple 1 1|tuple 1 2|tuple 2 2|relation never 2|end|",
+        19,
+    ),
+];
+
 #[test]
 fn instances_of_constants(rt: HostRuntime) -> Result<(), Fail> {
-    let languages: [(&[u8], usize); 2] = [
-        (
-            b"polyanna 1|domain 2|relation never 1|relation or 2|tuple 0 1|tuple 1 0|tuple 1 1|end|",
-            13,
-        ),
-        (
-            b"polyanna 1|domain 3|relation le 2|tuple 0 0|tuple 0 1|tuple 0 2|tuple 1 1|tuple 1 2|tuple 2 2|relation never 2|end|",
-            19,
-        ),
-    ];
-    for (language, triples) in languages {
+    for (language, triples) in CONSTANT {
         assert_answers(&rt, rt.alloc(), language, ClassName::Constant, triples)?;
     }
     Ok(())
 }
 
+const SEMILATTICE: [(&[u8], usize); 2] = [
+    (
+        b"polyanna 1|domain 2|relation h 3|tuple 0 0 0|tuple 0 0 1|tuple 0 1 0|tuple 0 1 1|tuple 1 0 0|tuple 1 0 1|tuple 1 1 1|relation zero 1|tuple 0|relation one 1|tuple 1|end|",
+        0,
+    ),
+    (
+        b"polyanna 1|domain 3|relation lt 2|tuple 0 1|tuple 0 2|tuple 1 2|relation low 1|tuple 0|tuple 1|end|",
+        13,
+    ),
+];
+
 #[test]
 fn instances_of_semilattice_operations(rt: HostRuntime) -> Result<(), Fail> {
-    let languages: [(&[u8], usize); 2] = [
-        (
-            b"polyanna 1|domain 2|relation h 3|tuple 0 0 0|tuple 0 0 1|tuple 0 1 0|tuple 0 1 1|tuple 1 0 0|tuple 1 0 1|tuple 1 1 1|relation zero 1|tuple 0|relation one 1|tuple 1|end|",
-            0,
-        ),
-        (
-            b"polyanna 1|domain 3|relation lt 2|tuple 0 1|tuple 0 2|tuple 1 2|relation low 1|tuple 0|tuple 1|end|",
-            13,
-        ),
-    ];
-    for (language, triples) in languages {
+    for (language, triples) in SEMILATTICE {
         assert_answers(&rt, rt.alloc(), language, ClassName::Semilattice, triples)?;
     }
     Ok(())
 }
 
+const SET_FUNCTION: [(&[u8], usize); 2] = [
+    (
+        b"polyanna 1|domain 3|relation pp 3|tuple 0 0 0|tuple 0 2 2|tuple 2 0 2|tuple 2 2 0|relation one 1|tuple 1|end|",
+        0,
+    ),
+    (
+        b"polyanna 1|domain 4|relation pp 3|tuple 0 0 0|tuple 0 2 2|tuple 2 0 2|tuple 2 2 0|relation next 2|tuple 1 0|tuple 1 3|end|",
+        0,
+    ),
+];
+
 #[test]
 fn instances_of_set_functions(rt: HostRuntime) -> Result<(), Fail> {
-    let languages: [(&[u8], usize); 2] = [
-        (
-            b"polyanna 1|domain 3|relation pp 3|tuple 0 0 0|tuple 0 2 2|tuple 2 0 2|tuple 2 2 0|relation one 1|tuple 1|end|",
-            0,
-        ),
-        (
-            b"polyanna 1|domain 4|relation pp 3|tuple 0 0 0|tuple 0 2 2|tuple 2 0 2|tuple 2 2 0|relation next 2|tuple 1 0|tuple 1 3|end|",
-            0,
-        ),
-    ];
-    for (language, triples) in languages {
+    for (language, triples) in SET_FUNCTION {
         assert_answers(&rt, rt.alloc(), language, ClassName::SetFunction, triples)?;
     }
     Ok(())
 }
 
+const MAJORITY: [(&[u8], usize); 3] = [
+    (
+        b"polyanna 1|domain 2|relation neq 2|tuple 0 1|tuple 1 0|relation zero 1|tuple 0|end|",
+        13,
+    ),
+    (
+        b"polyanna 1|domain 2|relation or 2|tuple 0 1|tuple 1 0|tuple 1 1|relation nand 2|tuple 0 0|tuple 0 1|tuple 1 0|end|",
+        19,
+    ),
+    (
+        b"polyanna 1|domain 3|relation turn 2|tuple 0 1|tuple 1 2|tuple 2 0|relation some 1|tuple 0|tuple 1|end|",
+        13,
+    ),
+];
+
 #[test]
 fn instances_of_majority_operations(rt: HostRuntime) -> Result<(), Fail> {
-    let languages: [(&[u8], usize); 3] = [
-        (
-            b"polyanna 1|domain 2|relation neq 2|tuple 0 1|tuple 1 0|relation zero 1|tuple 0|end|",
-            13,
-        ),
-        (
-            b"polyanna 1|domain 2|relation or 2|tuple 0 1|tuple 1 0|tuple 1 1|relation nand 2|tuple 0 0|tuple 0 1|tuple 1 0|end|",
-            19,
-        ),
-        (
-            b"polyanna 1|domain 3|relation turn 2|tuple 0 1|tuple 1 2|tuple 2 0|relation some 1|tuple 0|tuple 1|end|",
-            13,
-        ),
-    ];
-    for (language, triples) in languages {
+    for (language, triples) in MAJORITY {
         assert_answers(&rt, rt.alloc(), language, ClassName::Majority, triples)?;
     }
     Ok(())
 }
 
+const ARITY_FOUR: [(&[u8], usize); 2] = [
+    (
+        b"polyanna 1|domain 3|relation nn 2|tuple 0 2|tuple 2 0|relation qq 3|tuple 0 0 0|tuple 0 0 1|tuple 0 1 0|tuple 0 1 1|tuple 1 0 0|tuple 1 0 1|tuple 1 1 0|end|",
+        10,
+    ),
+    (
+        b"polyanna 1|domain 4|relation nn 2|tuple 0 3|tuple 3 0|relation qq 3|tuple 0 0 0|tuple 0 0 1|tuple 0 1 0|tuple 0 1 1|tuple 1 0 0|tuple 1 0 1|tuple 1 1 0|relation some 1|tuple 1|tuple 3|end|",
+        10,
+    ),
+];
+
 #[test]
 fn instances_of_operations_of_arity_four(rt: HostRuntime) -> Result<(), Fail> {
-    let languages: [(&[u8], usize); 2] = [
-        (
-            b"polyanna 1|domain 3|relation nn 2|tuple 0 2|tuple 2 0|relation qq 3|tuple 0 0 0|tuple 0 0 1|tuple 0 1 0|tuple 0 1 1|tuple 1 0 0|tuple 1 0 1|tuple 1 1 0|end|",
-            10,
-        ),
-        (
-            b"polyanna 1|domain 4|relation nn 2|tuple 0 3|tuple 3 0|relation qq 3|tuple 0 0 0|tuple 0 0 1|tuple 0 1 0|tuple 0 1 1|tuple 1 0 0|tuple 1 0 1|tuple 1 1 0|relation some 1|tuple 1|tuple 3|end|",
-            10,
-        ),
-    ];
-    for (language, triples) in languages {
+    for (language, triples) in ARITY_FOUR {
         assert_answers(&rt, rt.alloc(), language, ClassName::Nu4, triples)?;
     }
     Ok(())
 }
 
+const AFFINE: [(&[u8], usize); 2] = [
+    (
+        b"polyanna 1|domain 2|relation odd 3|tuple 0 0 1|tuple 0 1 0|tuple 1 0 0|tuple 1 1 1|relation zero 1|tuple 0|end|",
+        6,
+    ),
+    (
+        b"polyanna 1|domain 3|relation one 3|tuple 0 0 1|tuple 0 1 0|tuple 0 2 2|tuple 1 0 0|tuple 1 1 2|tuple 1 2 1|tuple 2 0 2|tuple 2 1 1|tuple 2 2 0|relation zero 1|tuple 0|end|",
+        0,
+    ),
+];
+
 #[test]
 fn instances_of_affine_operations(rt: HostRuntime) -> Result<(), Fail> {
-    let languages: [(&[u8], usize); 2] = [
-        (
-            b"polyanna 1|domain 2|relation odd 3|tuple 0 0 1|tuple 0 1 0|tuple 1 0 0|tuple 1 1 1|relation zero 1|tuple 0|end|",
-            6,
-        ),
-        (
-            b"polyanna 1|domain 3|relation one 3|tuple 0 0 1|tuple 0 1 0|tuple 0 2 2|tuple 1 0 0|tuple 1 1 2|tuple 1 2 1|tuple 2 0 2|tuple 2 1 1|tuple 2 2 0|relation zero 1|tuple 0|end|",
-            0,
-        ),
-    ];
-    for (language, triples) in languages {
+    for (language, triples) in AFFINE {
         assert_answers(&rt, rt.alloc(), language, ClassName::Affine, triples)?;
     }
     Ok(())
 }
 
+const MALTSEV: [(&[u8], usize); 2] = [
+    (
+        b"polyanna 1|domain 3|relation swap 2|tuple 0 1|tuple 1 0|tuple 2 2|relation two 1|tuple 2|relation parity 3|tuple 0 0 0|tuple 0 1 1|tuple 1 0 1|tuple 1 1 0|end|",
+        13,
+    ),
+    (
+        b"polyanna 1|domain 4|relation one 1|tuple 1|relation sum 3|tuple 0 0 0|tuple 0 1 3|tuple 0 2 2|tuple 0 3 1|tuple 1 0 3|tuple 1 1 2|tuple 1 2 1|tuple 1 3 0|tuple 2 0 2|tuple 2 1 1|tuple 2 2 0|tuple 2 3 3|tuple 3 0 1|tuple 3 1 0|tuple 3 2 3|tuple 3 3 2|end|",
+        4,
+    ),
+];
+
 #[test]
 fn instances_of_maltsev_operations(rt: HostRuntime) -> Result<(), Fail> {
-    let languages: [(&[u8], usize); 2] = [
-        (
-            b"polyanna 1|domain 3|relation swap 2|tuple 0 1|tuple 1 0|tuple 2 2|relation two 1|tuple 2|relation parity 3|tuple 0 0 0|tuple 0 1 1|tuple 1 0 1|tuple 1 1 0|end|",
-            13,
-        ),
-        (
-            b"polyanna 1|domain 4|relation one 1|tuple 1|relation sum 3|tuple 0 0 0|tuple 0 1 3|tuple 0 2 2|tuple 0 3 1|tuple 1 0 3|tuple 1 1 2|tuple 1 2 1|tuple 1 3 0|tuple 2 0 2|tuple 2 1 1|tuple 2 2 0|tuple 2 3 3|tuple 3 0 1|tuple 3 1 0|tuple 3 2 3|tuple 3 3 2|end|",
-            4,
-        ),
-    ];
-    for (language, triples) in languages {
+    for (language, triples) in MALTSEV {
         assert_answers(&rt, rt.alloc(), language, ClassName::Maltsev, triples)?;
     }
     Ok(())

@@ -10,25 +10,30 @@ const FILE: &[u8] =
 
 const USAGE: &[u8] = b"usage: polyanna report | polyanna check | polyanna gen N\n";
 
+const UNKNOWN_WORDS: [&[&str]; 17] = [
+    &[],
+    &[""],
+    &["Report"],
+    &["report "],
+    &["report", "extra"],
+    &["report", "report"],
+    &["report extra"],
+    &["Check"],
+    &["check", "extra"],
+    &["gen"],
+    &["gen", "12x"],
+    &["gen", "1234567890"],
+    &["gen", ""],
+    &["gen", "1", "2"],
+    &["Gen", "1"],
+    &["gen 1"],
+    &["--help"],
+];
+
 #[test]
 fn words_that_are_no_command(rt: HostRuntime) -> Result<(), Fail> {
     let alloc = rt.alloc();
-    let lines: [&[&str]; 13] = [
-        &[],
-        &[""],
-        &["Report"],
-        &["report "],
-        &["report", "extra"],
-        &["report", "report"],
-        &["report extra"],
-        &["Check"],
-        &["check", "extra"],
-        &["gen"],
-        &["gen", "12x"],
-        &["gen", "1234567890"],
-        &["--help"],
-    ];
-    for line in lines {
+    for line in UNKNOWN_WORDS {
         let done = run_on(alloc, line, FILE)?;
         assert_eq!(rt; done.text.as_slice(), USAGE, "at {line:?}");
         assert_eq!(rt; done.status, 2, "at {line:?}");
@@ -77,26 +82,28 @@ fn runs_without_faults(rt: HostRuntime) -> Result<(), Fail> {
     Ok(())
 }
 
+/// A line that is refused.
+const NO_HEADER: Refusal = Refusal {
+    line: 1,
+    word: Word::NoHeader,
+};
+
+const STATUSES: [(Ended, u8, u8); 7] = [
+    (Ended::Done, 0, 5),
+    (Ended::Rejected, 1, 5),
+    (Ended::Usage, 2, 5),
+    (Ended::Refused(NO_HEADER), 3, 5),
+    (Ended::ReadFault, 4, 4),
+    (Ended::WriteFault, 5, 5),
+    (Ended::NoMemory, 6, 6),
+];
+
 #[test]
-fn statuses_behind_a_flush(rt: HostRuntime) -> Result<(), Fail> {
-    let refused = Ended::Refused(Refusal {
-        line: 1,
-        word: Word::NoHeader,
-    });
-    let cases = [
-        (Ended::Done, 0, 5),
-        (Ended::Rejected, 1, 5),
-        (Ended::Usage, 2, 5),
-        (refused, 3, 5),
-        (Ended::ReadFault, 4, 4),
-        (Ended::WriteFault, 5, 5),
-        (Ended::NoMemory, 6, 6),
-    ];
-    for (ended, flushed, failed) in cases {
+fn statuses_behind_a_flush(rt: HostRuntime) {
+    for (ended, flushed, failed) in STATUSES {
         assert_eq!(rt; ended.status_after(Ok(())), flushed);
         assert_eq!(rt; ended.status_after(Err(Failed)), failed);
     }
-    Ok(())
 }
 
 #[test]

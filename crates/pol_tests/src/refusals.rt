@@ -5,6 +5,37 @@ use std::alloc::Global;
 use std::test::Fail;
 
 /// Each beginning of a file that is shorter than its last line, by ranges of lengths.
+const BEGINNINGS: [(u32, u32, &[u8]); 28] = [
+    (0, 7, b"refused 1 NoHeader|"),
+    (8, 9, b"refused 1 BadVersion|"),
+    (10, 11, b"refused 2 Ended|"),
+    (12, 18, b"refused 2 BadLine|"),
+    (19, 20, b"refused 3 Ended|"),
+    (21, 33, b"refused 3 BadLine|"),
+    (34, 35, b"refused 4 Ended|"),
+    (36, 39, b"refused 4 BadLine|"),
+    (40, 43, b"refused 4 ShortTuple|"),
+    (44, 45, b"refused 5 Ended|"),
+    (46, 49, b"refused 5 BadLine|"),
+    (50, 53, b"refused 5 ShortTuple|"),
+    (54, 55, b"refused 6 Ended|"),
+    (56, 68, b"refused 6 BadLine|"),
+    (69, 74, b"refused 7 Ended|"),
+    (75, 85, b"refused 7 BadLine|"),
+    (86, 87, b"refused 7 UnknownRelation|"),
+    (88, 91, b"refused 7 BadArity|"),
+    (92, 93, b"refused 8 Ended|"),
+    (94, 104, b"refused 8 BadLine|"),
+    (105, 106, b"refused 8 UnknownRelation|"),
+    (107, 110, b"refused 8 BadArity|"),
+    (111, 112, b"refused 9 Ended|"),
+    (113, 123, b"refused 9 BadLine|"),
+    (124, 125, b"refused 9 UnknownRelation|"),
+    (126, 129, b"refused 9 BadArity|"),
+    (130, 131, b"refused 10 Ended|"),
+    (132, 133, b"refused 10 BadLine|"),
+];
+
 #[test]
 fn beginnings_of_a_file(rt: HostRuntime) -> Result<(), Fail> {
     let alloc = rt.alloc();
@@ -12,37 +43,7 @@ fn beginnings_of_a_file(rt: HostRuntime) -> Result<(), Fail> {
         alloc,
         b"polyanna 1|domain 2|relation neq 2|tuple 0 1|tuple 1 0|instance tri x y z|constraint neq x y|constraint neq y z|constraint neq z x|end|",
     )?;
-    let cases: [(u32, u32, &[u8]); 28] = [
-        (0, 7, b"refused 1 NoHeader|"),
-        (8, 9, b"refused 1 BadVersion|"),
-        (10, 11, b"refused 2 Ended|"),
-        (12, 18, b"refused 2 BadLine|"),
-        (19, 20, b"refused 3 Ended|"),
-        (21, 33, b"refused 3 BadLine|"),
-        (34, 35, b"refused 4 Ended|"),
-        (36, 39, b"refused 4 BadLine|"),
-        (40, 43, b"refused 4 ShortTuple|"),
-        (44, 45, b"refused 5 Ended|"),
-        (46, 49, b"refused 5 BadLine|"),
-        (50, 53, b"refused 5 ShortTuple|"),
-        (54, 55, b"refused 6 Ended|"),
-        (56, 68, b"refused 6 BadLine|"),
-        (69, 74, b"refused 7 Ended|"),
-        (75, 85, b"refused 7 BadLine|"),
-        (86, 87, b"refused 7 UnknownRelation|"),
-        (88, 91, b"refused 7 BadArity|"),
-        (92, 93, b"refused 8 Ended|"),
-        (94, 104, b"refused 8 BadLine|"),
-        (105, 106, b"refused 8 UnknownRelation|"),
-        (107, 110, b"refused 8 BadArity|"),
-        (111, 112, b"refused 9 Ended|"),
-        (113, 123, b"refused 9 BadLine|"),
-        (124, 125, b"refused 9 UnknownRelation|"),
-        (126, 129, b"refused 9 BadArity|"),
-        (130, 131, b"refused 10 Ended|"),
-        (132, 133, b"refused 10 BadLine|"),
-    ];
-    for (first, last, refusal) in cases {
+    for (first, last, refusal) in BEGINNINGS {
         for length in first..=last {
             let front = file.as_slice().get(..length as usize).ok_or("a beginning")?;
             assert_written(&rt, alloc, front, refusal)?;
@@ -51,108 +52,110 @@ fn beginnings_of_a_file(rt: HostRuntime) -> Result<(), Fail> {
     Ok(())
 }
 
+const LANGUAGES: [(&[u8], &[u8]); 24] = [
+    (b"", b"refused 1 NoHeader|"),
+    (b"|||", b"refused 4 NoHeader|"),
+    (b"# only|# comments", b"refused 3 NoHeader|"),
+    (b"\r", b"refused 2 NoHeader|"),
+    (b"polyanna 9|", b"refused 1 BadVersion|"),
+    (b"polyanna 0000000001|", b"refused 1 BadVersion|"),
+    (b"polyanna 1|domain 6|", b"refused 2 BadDomain|"),
+    (b"polyanna 1|domain two|", b"refused 2 BadNumber|"),
+    (b"polyanna 1|domain 2|", b"refused 3 Ended|"),
+    (b"polyanna 1|domain 2", b"refused 3 Ended|"),
+    (b"polyanna 1|domain 2|tuple 0|", b"refused 3 BadLine|"),
+    (b"polyanna 1|domain 2|relation 2r 1|", b"refused 3 BadName|"),
+    (
+        b"polyanna 1|domain 2|relation r\0 1|",
+        b"refused 3 BadName|",
+    ),
+    (
+        b"polyanna 1|domain 2|relation abcdefghijklmnopqrstuvwxyz0123456 1|",
+        b"refused 3 BadName|",
+    ),
+    (
+        b"polyanna 1|domain 2|relation r 1|relation r 2|",
+        b"refused 4 RepeatedName|",
+    ),
+    (b"polyanna 1|domain 2|relation r 7|", b"refused 3 BadArity|"),
+    (
+        b"polyanna 1|domain 2|relation r 2|tuple 0|",
+        b"refused 4 ShortTuple|",
+    ),
+    (
+        b"polyanna 1|domain 2|relation r 2|tuple 0 1 0|",
+        b"refused 4 LongTuple|",
+    ),
+    (
+        b"polyanna 1|domain 2|relation r 2|tuple 0 2|",
+        b"refused 4 ValueOutside|",
+    ),
+    (
+        b"polyanna 1|domain 2|relation r 2|tuple 2 x|",
+        b"refused 4 ValueOutside|",
+    ),
+    (
+        b"polyanna 1|domain 5|relation r 5|",
+        b"refused 3 SubsetLimit|",
+    ),
+    (b"polyanna 1|domain 2|end|x|", b"refused 4 AfterEnd|"),
+    (b"polyanna 1|domain 2|end|# x||y", b"refused 6 AfterEnd|"),
+    (b"polyanna 1|domain 2|end x|", b"refused 3 BadLine|"),
+];
+
 #[test]
 fn refusals_of_languages(rt: HostRuntime) -> Result<(), Fail> {
     let alloc = rt.alloc();
-    let cases: [(&[u8], &[u8]); 24] = [
-        (b"", b"refused 1 NoHeader|"),
-        (b"|||", b"refused 4 NoHeader|"),
-        (b"# only|# comments", b"refused 3 NoHeader|"),
-        (b"\r", b"refused 2 NoHeader|"),
-        (b"polyanna 9|", b"refused 1 BadVersion|"),
-        (b"polyanna 0000000001|", b"refused 1 BadVersion|"),
-        (b"polyanna 1|domain 6|", b"refused 2 BadDomain|"),
-        (b"polyanna 1|domain two|", b"refused 2 BadNumber|"),
-        (b"polyanna 1|domain 2|", b"refused 3 Ended|"),
-        (b"polyanna 1|domain 2", b"refused 3 Ended|"),
-        (b"polyanna 1|domain 2|tuple 0|", b"refused 3 BadLine|"),
-        (b"polyanna 1|domain 2|relation 2r 1|", b"refused 3 BadName|"),
-        (
-            b"polyanna 1|domain 2|relation r\0 1|",
-            b"refused 3 BadName|",
-        ),
-        (
-            b"polyanna 1|domain 2|relation abcdefghijklmnopqrstuvwxyz0123456 1|",
-            b"refused 3 BadName|",
-        ),
-        (
-            b"polyanna 1|domain 2|relation r 1|relation r 2|",
-            b"refused 4 RepeatedName|",
-        ),
-        (b"polyanna 1|domain 2|relation r 7|", b"refused 3 BadArity|"),
-        (
-            b"polyanna 1|domain 2|relation r 2|tuple 0|",
-            b"refused 4 ShortTuple|",
-        ),
-        (
-            b"polyanna 1|domain 2|relation r 2|tuple 0 1 0|",
-            b"refused 4 LongTuple|",
-        ),
-        (
-            b"polyanna 1|domain 2|relation r 2|tuple 0 2|",
-            b"refused 4 ValueOutside|",
-        ),
-        (
-            b"polyanna 1|domain 2|relation r 2|tuple 2 x|",
-            b"refused 4 ValueOutside|",
-        ),
-        (
-            b"polyanna 1|domain 5|relation r 5|",
-            b"refused 3 SubsetLimit|",
-        ),
-        (b"polyanna 1|domain 2|end|x|", b"refused 4 AfterEnd|"),
-        (b"polyanna 1|domain 2|end|# x||y", b"refused 6 AfterEnd|"),
-        (b"polyanna 1|domain 2|end x|", b"refused 3 BadLine|"),
-    ];
-    for (input, refusal) in cases {
+    for (input, refusal) in LANGUAGES {
         assert_written(&rt, alloc, lines(alloc, input)?.as_slice(), refusal)?;
     }
     Ok(())
 }
 
+const INSTANCES: [(&[u8], &[u8]); 10] = [
+    (
+        b"polyanna 1|domain 2|instance i x|constraint s x|",
+        b"refused 4 UnknownRelation|",
+    ),
+    (
+        b"polyanna 1|domain 2|instance i x|constraint s y|",
+        b"refused 4 UnknownRelation|",
+    ),
+    (
+        b"polyanna 1|domain 2|relation r 1|instance i x|constraint r y|",
+        b"refused 5 UnknownVariable|",
+    ),
+    (
+        b"polyanna 1|domain 2|relation r 1|instance i x|constraint r|",
+        b"refused 5 BadArity|",
+    ),
+    (
+        b"polyanna 1|domain 2|instance i x|constraint|",
+        b"refused 4 BadLine|",
+    ),
+    (b"polyanna 1|domain 2|instance i|", b"refused 3 BadLine|"),
+    (
+        b"polyanna 1|domain 2|instance i x x|",
+        b"refused 3 RepeatedName|",
+    ),
+    (
+        b"polyanna 1|domain 2|instance i x|instance i x|",
+        b"refused 4 RepeatedName|",
+    ),
+    (
+        b"polyanna 1|domain 2|instance i x|relation r 1|",
+        b"refused 4 BadLine|",
+    ),
+    (
+        b"polyanna 1|domain 2|constraint r x|",
+        b"refused 3 BadLine|",
+    ),
+];
+
 #[test]
 fn refusals_of_instances(rt: HostRuntime) -> Result<(), Fail> {
     let alloc = rt.alloc();
-    let cases: [(&[u8], &[u8]); 10] = [
-        (
-            b"polyanna 1|domain 2|instance i x|constraint s x|",
-            b"refused 4 UnknownRelation|",
-        ),
-        (
-            b"polyanna 1|domain 2|instance i x|constraint s y|",
-            b"refused 4 UnknownRelation|",
-        ),
-        (
-            b"polyanna 1|domain 2|relation r 1|instance i x|constraint r y|",
-            b"refused 5 UnknownVariable|",
-        ),
-        (
-            b"polyanna 1|domain 2|relation r 1|instance i x|constraint r|",
-            b"refused 5 BadArity|",
-        ),
-        (
-            b"polyanna 1|domain 2|instance i x|constraint|",
-            b"refused 4 BadLine|",
-        ),
-        (b"polyanna 1|domain 2|instance i|", b"refused 3 BadLine|"),
-        (
-            b"polyanna 1|domain 2|instance i x x|",
-            b"refused 3 RepeatedName|",
-        ),
-        (
-            b"polyanna 1|domain 2|instance i x|instance i x|",
-            b"refused 4 RepeatedName|",
-        ),
-        (
-            b"polyanna 1|domain 2|instance i x|relation r 1|",
-            b"refused 4 BadLine|",
-        ),
-        (
-            b"polyanna 1|domain 2|constraint r x|",
-            b"refused 3 BadLine|",
-        ),
-    ];
-    for (input, refusal) in cases {
+    for (input, refusal) in INSTANCES {
         assert_written(&rt, alloc, lines(alloc, input)?.as_slice(), refusal)?;
     }
     Ok(())
@@ -232,60 +235,61 @@ fn refusals_at_the_limits_on_numbers(rt: HostRuntime) -> Result<(), Fail> {
     Ok(())
 }
 
+const TUPLES: [(&[u8], u32, u32, u32, &[u8], &[u8]); 6] = [
+    (
+        b"polyanna 1|domain 2|relation r 6|",
+        38,
+        2,
+        6,
+        b"end|",
+        b"polyanna-report 1|class constant 0 0|class semilattice 0 0 0 1|class set-function 0 0 0|class majority none|class nu4 0 0 0 0 0 0 0 1 0 0 0 1 0 1 1 1|class affine none|class maltsev none|end|",
+    ),
+    (
+        b"polyanna 1|domain 2|relation r 6|",
+        39,
+        2,
+        6,
+        b"end|",
+        b"polyanna-report 1|class constant 0 0|class semilattice 0 0 0 1|class set-function 0 0 0|class majority none|class nu4 beyond|class affine none|class maltsev none|end|",
+    ),
+    (
+        b"polyanna 1|domain 2|relation r 6|",
+        39,
+        2,
+        6,
+        b"relation one 1|tuple 1|instance a u v w x y z|constraint one u|constraint r u v w x y z|instance b u v w x y z|constraint one u|constraint one v|constraint r u v w x y z|end|",
+        b"polyanna-report 1|class constant none|class semilattice 0 0 0 1|class set-function 0 1 0|class majority none|class nu4 beyond|class affine none|class maltsev none|instance a yes semilattice 1 0 0 0 0 0|instance b no semilattice 4|c 0 1 0 0 0|c 1 1 1 0 0|c 2 1 0 1 7 1 1 1 1 1 1 1|v 0 0 2 0 2|end|",
+    ),
+    (
+        b"polyanna 1|domain 3|relation r 5|",
+        128,
+        3,
+        5,
+        b"end|",
+        b"polyanna-report 1|class constant 0 0 0|class semilattice 0 0 0 0 1 0 0 0 2|class set-function 0 0 0 0 0 0 0|class majority none|class nu4 beyond|class affine none|class maltsev none|end|",
+    ),
+    (
+        b"polyanna 1|domain 3|relation r 5|",
+        129,
+        3,
+        5,
+        b"end|",
+        b"refused 132 TooManyTuples|",
+    ),
+    (
+        b"polyanna 1|domain 3|relation r 5|",
+        128,
+        3,
+        5,
+        b"relation b 1|tuple 0|end|",
+        b"refused 133 TripleLimit|",
+    ),
+];
+
 #[test]
 fn limits_on_tuples(rt: HostRuntime) -> Result<(), Fail> {
     let alloc = rt.alloc();
-    let cases: [(&[u8], u32, u32, u32, &[u8], &[u8]); 6] = [
-        (
-            b"polyanna 1|domain 2|relation r 6|",
-            38,
-            2,
-            6,
-            b"end|",
-            b"polyanna-report 1|class constant 0 0|class semilattice 0 0 0 1|class set-function 0 0 0|class majority none|class nu4 0 0 0 0 0 0 0 1 0 0 0 1 0 1 1 1|class affine none|class maltsev none|end|",
-        ),
-        (
-            b"polyanna 1|domain 2|relation r 6|",
-            39,
-            2,
-            6,
-            b"end|",
-            b"polyanna-report 1|class constant 0 0|class semilattice 0 0 0 1|class set-function 0 0 0|class majority none|class nu4 beyond|class affine none|class maltsev none|end|",
-        ),
-        (
-            b"polyanna 1|domain 2|relation r 6|",
-            39,
-            2,
-            6,
-            b"relation one 1|tuple 1|instance a u v w x y z|constraint one u|constraint r u v w x y z|instance b u v w x y z|constraint one u|constraint one v|constraint r u v w x y z|end|",
-            b"polyanna-report 1|class constant none|class semilattice 0 0 0 1|class set-function 0 1 0|class majority none|class nu4 beyond|class affine none|class maltsev none|instance a yes semilattice 1 0 0 0 0 0|instance b no semilattice 4|c 0 1 0 0 0|c 1 1 1 0 0|c 2 1 0 1 7 1 1 1 1 1 1 1|v 0 0 2 0 2|end|",
-        ),
-        (
-            b"polyanna 1|domain 3|relation r 5|",
-            128,
-            3,
-            5,
-            b"end|",
-            b"polyanna-report 1|class constant 0 0 0|class semilattice 0 0 0 0 1 0 0 0 2|class set-function 0 0 0 0 0 0 0|class majority none|class nu4 beyond|class affine none|class maltsev none|end|",
-        ),
-        (
-            b"polyanna 1|domain 3|relation r 5|",
-            129,
-            3,
-            5,
-            b"end|",
-            b"refused 132 TooManyTuples|",
-        ),
-        (
-            b"polyanna 1|domain 3|relation r 5|",
-            128,
-            3,
-            5,
-            b"relation b 1|tuple 0|end|",
-            b"refused 133 TripleLimit|",
-        ),
-    ];
-    for (front, count, base, arity, behind, written) in cases {
+    for (front, count, base, arity, behind, written) in TUPLES {
         let mut input = lines(alloc, front)?;
         put_tuples(&mut input, count, base, arity)?;
         input.append(lines(alloc, behind)?.as_slice())?;

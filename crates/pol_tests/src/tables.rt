@@ -11,21 +11,22 @@ const ONE: &[u8] = b"polyanna 1|domain 2|relation one 1|tuple 1|end|";
 
 const UNEQUAL: &[u8] = b"polyanna 1|domain 2|relation neq 2|tuple 0 1|tuple 1 0|end|";
 
+const KEEP_ONE: [(ClassName, &[u8]); 7] = [
+    (ClassName::Constant, &[1, 1]),
+    (ClassName::Semilattice, &[0, 0, 0, 1]),
+    (ClassName::SetFunction, &[0, 1, 0]),
+    (ClassName::Majority, &[0, 0, 0, 1, 0, 1, 1, 1]),
+    (
+        ClassName::Nu4,
+        &[0, 0, 0, 0, 0, 0, 0, 1, 0, 0, 0, 1, 0, 1, 1, 1],
+    ),
+    (ClassName::Affine, &[0, 1, 1, 0, 1, 0, 0, 1]),
+    (ClassName::Maltsev, &[0, 1, 0, 0, 1, 0, 0, 1]),
+];
+
 #[test]
 fn changed_tables_that_keep_one(rt: HostRuntime) -> Result<(), Fail> {
-    let tables: [(ClassName, &[u8]); 7] = [
-        (ClassName::Constant, &[1, 1]),
-        (ClassName::Semilattice, &[0, 0, 0, 1]),
-        (ClassName::SetFunction, &[0, 1, 0]),
-        (ClassName::Majority, &[0, 0, 0, 1, 0, 1, 1, 1]),
-        (
-            ClassName::Nu4,
-            &[0, 0, 0, 0, 0, 0, 0, 1, 0, 0, 0, 1, 0, 1, 1, 1],
-        ),
-        (ClassName::Affine, &[0, 1, 1, 0, 1, 0, 0, 1]),
-        (ClassName::Maltsev, &[0, 1, 0, 0, 1, 0, 0, 1]),
-    ];
-    for (class, cells) in tables {
+    for (class, cells) in KEEP_ONE {
         for cell in 0..cells.len() {
             let changed = with_change(rt.alloc(), cells, cell)?;
             let preserved = keeps_one(class, changed.as_slice());
@@ -35,18 +36,19 @@ fn changed_tables_that_keep_one(rt: HostRuntime) -> Result<(), Fail> {
     Ok(())
 }
 
+const KEEP_UNEQUAL: [(ClassName, &[u8]); 4] = [
+    (ClassName::Majority, &[0, 0, 0, 1, 0, 1, 1, 1]),
+    (
+        ClassName::Nu4,
+        &[0, 0, 0, 0, 0, 0, 0, 1, 0, 1, 1, 1, 1, 1, 1, 1],
+    ),
+    (ClassName::Affine, &[0, 1, 1, 0, 1, 0, 0, 1]),
+    (ClassName::Maltsev, &[0, 1, 0, 0, 1, 1, 0, 1]),
+];
+
 #[test]
 fn changed_tables_that_keep_unequal(rt: HostRuntime) -> Result<(), Fail> {
-    let tables: [(ClassName, &[u8]); 4] = [
-        (ClassName::Majority, &[0, 0, 0, 1, 0, 1, 1, 1]),
-        (
-            ClassName::Nu4,
-            &[0, 0, 0, 0, 0, 0, 0, 1, 0, 1, 1, 1, 1, 1, 1, 1],
-        ),
-        (ClassName::Affine, &[0, 1, 1, 0, 1, 0, 0, 1]),
-        (ClassName::Maltsev, &[0, 1, 0, 0, 1, 1, 0, 1]),
-    ];
-    for (class, cells) in tables {
+    for (class, cells) in KEEP_UNEQUAL {
         for cell in 0..cells.len() {
             let changed = with_change(rt.alloc(), cells, cell)?;
             let preserved = keeps_unequal(changed.as_slice());
