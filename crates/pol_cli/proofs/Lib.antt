@@ -3,6 +3,9 @@ pub mod DueLemmas
 pub mod RunLemmas
 pub mod ReportLemmas
 pub mod ReportLaws
+pub mod CountLemmas
+pub mod TallyLemmas
+pub mod SummaryLaws
 pub mod CheckLemmas
 pub mod CheckLaws
 pub mod DueLaws

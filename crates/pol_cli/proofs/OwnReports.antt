@@ -1,8 +1,8 @@
 -- A file with its own report behind it passes.
-use Rattle.std.proofs.Common.{◌≡◌, ℕ, ◌+◌, ◌*◌, ◌<◌, ◌≤◌, Bool, true, false, cond, List, [], ◌∷◌, ◌++◌, length, map, get_or, sum_by, All, Option, Some, None, Ok, refl, sym, ap, ◌∙◌, subst, arith, append_assoc}
-use Rattle.std.specs.List.{AllZip, list_any}
+use Rattle.std.proofs.Common.{◌≡◌, ℕ, ◌+◌, ◌*◌, ◌<◌, ◌≤◌, true, false, List, [], ◌∷◌, ◌++◌, length, map, get_or, sum_by, All, Option, Some, None, Ok, refl, sym, ap, ◌∙◌, subst, arith, append_assoc}
+use Rattle.std.specs.List.{AllZip}
 use Rattle.std.proofs.lemmas.List.{get_or_default}
-use Rattle.std.proofs.lemmas.List.Elements.{All-nil, All-cons, All-head, All-tail, All-append, All-map, All-from_recursion}
+use Rattle.std.proofs.lemmas.List.Elements.{All-nil, All-cons, All-head, All-tail, All-append, All-map}
 use Rattle.std.proofs.lemmas.List.Sums.{sum_by-cons}
 use Rattle.std.proofs.lemmas.Slice.Zip.{AllZip-long}
 use Rattle.pol_base.specs.declared.class_name.ClassName.{ClassName}
@@ -29,7 +29,7 @@ use Rattle.pol_lang.proofs.GrammarLemmas.{parse-within}
 use Rattle.pol_lang.proofs.SpellingLemmas.{parse-spelled}
 use Rattle.pol_checker.specs.declared.verdict.Verdict.{Verdict}
 use Rattle.pol_checker.specs.declared.verdict.Verdict.TheVariants.{Accepted, Unchecked}
-use Rattle.pol_checker.specs.Verdicts.{IsVerdict, HasNamed, IsAnswerVerdict}
+use Rattle.pol_checker.specs.Verdicts.{IsVerdict, IsAnswerVerdict}
 use Rattle.pol_checker.specs.Verdicts.IsAnswerVerdict.{named}
 use Rattle.pol_checker.specs.VerdictTexts.{verdict_line}
 use Rattle.pol_checker.specs.Laws.{VerdictIsOne}

@@ -131,7 +131,7 @@ true_sizes class lang inst (answer.YesSizes values sizes) owed = owed
 true_sizes class lang inst (answer.NoSizes sizes) owed = owed
 true_sizes class lang inst answer.Undecided owed = absurd owed
 
-true_owed :
+pub true_owed :
     (chosen : Option ClassName) (lang : LanguageView) (inst : InstanceView) (given : InstanceAnswer)
     → AnswersBy chosen lang inst given
     → IsTrueOf lang inst (answer_item inst.name chosen given)

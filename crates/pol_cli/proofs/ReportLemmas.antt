@@ -59,3 +59,7 @@ subjects-all file i all = ap (λ some. map Subject.OfClass all_classes ++ map Su
 pub put_whole : {A E : Type 0} (r : Result A E) (old new text : List ℕ) {P : Type 0} → Puts r old new text → (new ≡ old ++ text → P) → OnOk r P
 put_whole (Ok x) old new text puts follows = follows puts
 put_whole (Err e) old new text puts follows = tt
+
+-- what stands behind a text that stands behind another
+pub appended_behind : (old front new first second : List ℕ) → front ≡ old ++ first → new ≡ front ++ second → new ≡ old ++ (first ++ second)
+appended_behind old front new first second one two = two ∙ (ap (λ text. text ++ second) one ∙ append_assoc old first second)

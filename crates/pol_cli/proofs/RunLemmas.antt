@@ -2,8 +2,9 @@
 use Rattle.std.proofs.Common.{◌≡◌, ℕ, List, [], Option, Some, None, refl, sym, ◌∙◌, subst}
 use Rattle.std.proofs.KnownBytes.{Appends-nil}
 use Rattle.pol_outside.specs.Faults.{Rose}
-use Rattle.pol_cli.specs.Due.{AreKnown, usage_line}
-use Rattle.pol_cli.specs.Due.IsDue.{usage}
+use Rattle.pol_cli.specs.Summaries.{IsSummary}
+use Rattle.pol_cli.specs.Due.{AsksGen, AreKnown, usage_line}
+use Rattle.pol_cli.specs.Due.IsDue.{usage, generated}
 use Rattle.pol_cli.specs.Due.IsFront.{nothing, due}
 use Rattle.pol_cli.specs.declared.ended.Ended.{Ended}
 use Rattle.pol_cli.specs.declared.ended.Ended.TheVariants as ended
@@ -28,6 +29,14 @@ due-asked words asked left made shown ending asks same is =
 -- for unknown words the usage line is due, whatever the input
 pub due-usage : (words : List (List ℕ)) (left : Option (List ℕ)) → ¬ AreKnown words → IsDueFor words left usage_line ended.Usage
 due-usage words left unknown = record { bytes = told_bytes left; told = told_bytes-told left; due = usage unknown refl refl }
+
+-- for words that ask for a generated file its summary is due, whatever the input
+pub due-summary : (words : List (List ℕ)) (left : Option (List ℕ)) (number : ℕ) (made shown : List ℕ) → AsksGen words number → shown ≡ made → IsSummary number made → IsDueFor words left shown ended.Done
+due-summary words left number made shown asks same is = record {
+  bytes = told_bytes left;
+  told = told_bytes-told left;
+  due = generated number asks (subst (IsSummary number) (sym same) is) refl;
+}
 
 -- a sink to which nothing was written holds a front
 pub WritesFront-nothing : (words : List (List ℕ)) (left held : Option (List ℕ)) → WritesFront words left held held

@@ -1,5 +1,5 @@
 -- Texts behind whole lines: what stands before them is read as it is without them.
-use Rattle.std.proofs.Common.{◌≡◌, ℕ, zero, suc, ◌+◌, ◌≤◌, ◌==◌, Bool, true, false, cond, List, [], ◌∷◌, ◌++◌, length, drop, Option, None, Result, Ok, refl, ap, ◌∙◌, subst, append_assoc}
+use Rattle.std.proofs.Common.{◌≡◌, ℕ, zero, suc, ◌+◌, ◌≤◌, ◌==◌, Bool, true, false, cond, List, [], ◌∷◌, ◌++◌, length, drop, None, Ok, refl, ap, ◌∙◌, append_assoc}
 use Rattle.std.proofs.lemmas.List.{drop-append-le}
 use Rattle.pol_text.specs.Lines.{LineView, grown, lines_of, line_text, tokens_of, is_significant, significant_among, significant_lines}
 use Rattle.pol_report.specs.declared.item.Item.{Item}

@@ -1,5 +1,6 @@
 -- What a run has to write and how it ends, for the words of the command line and the bytes of the input.
 use Rattle.std.specs.Prelude.{◌≡◌, ℕ, ◌<◌, ◌≤◌, ◌⊎◌, List, [], ◌∷◌, ◌++◌, length, drop, Some, None, Result, Ok, Err, codes}
+use Rattle.pol_text.specs.Lines.{number_of}
 use Rattle.pol_text.specs.declared.refusal.Refusal.{Refusal}
 use Rattle.pol_text.specs.declared.word.Word.TheVariants.{AfterEnd, TooLong}
 use Rattle.pol_text.specs.Refusals.{refusal_line}
@@ -10,6 +11,9 @@ use Rattle.pol_report.specs.declared.item.Item.{Item}
 use Rattle.pol_report.specs.Grammar.{items_of}
 use Rattle.pol_cli.specs.Reports.{IsReport, IsBegunReport}
 use Rattle.pol_cli.specs.Checks.{IsChecked}
+use Rattle.pol_cli.specs.Summaries.{IsSummary}
+use Rattle.pol_cli.specs.declared.words.InputTask.{InputTask}
+use Rattle.pol_cli.specs.declared.words.InputTask.TheVariants as input
 use Rattle.pol_cli.specs.declared.words.Task.{Task}
 use Rattle.pol_cli.specs.declared.words.Task.TheVariants as task
 use Rattle.pol_cli.specs.declared.ended.Ended.{Ended}
@@ -27,10 +31,10 @@ report_words = codes "report" ∷ []
 abbrev pub check_words : List (List ℕ)
 check_words = codes "check" ∷ []
 
--- the words that ask for the task
-abbrev pub task_words : Task → List (List ℕ)
-task_words task.Report = report_words
-task_words task.Check = check_words
+-- the words that ask for what is made of the input
+abbrev pub input_words : InputTask → List (List ℕ)
+input_words input.Report = report_words
+input_words input.Check = check_words
 
 -- the words ask for a report
 abbrev pub AsksReport : List (List ℕ) → Type 0
@@ -44,9 +48,18 @@ AsksCheck words = words ≡ check_words
 abbrev pub AskInput : List (List ℕ) → Type 0
 AskInput words = AsksReport words ⊎ AsksCheck words
 
+-- the words ask for the summary of the file that the number makes
+abbrev pub AsksGen : List (List ℕ) → ℕ → Type 0
+AsksGen words number = (token : List ℕ) × (words ≡ codes "gen" ∷ token ∷ []) × (number_of token ≡ Some number)
+
+-- the words ask for the task
+abbrev pub Asks : List (List ℕ) → Task → Type 0
+Asks words (task.Input what) = words ≡ input_words what
+Asks words (task.Gen number) = AsksGen words number
+
 -- the words ask for something
 abbrev pub AreKnown : List (List ℕ) → Type 0
-AreKnown words = AskInput words
+AreKnown words = AskInput words ⊎ ((number : ℕ) × AsksGen words number)
 
 -- the text and the ending are those of the refusal
 pub record IsRefused (refusal : Refusal) (text : List ℕ) (ending : Ended) : Type 0 where
@@ -72,6 +85,10 @@ pub data IsDue (words : List (List ℕ)) (bytes text : List ℕ) (ending : Ended
   usage : ¬ AreKnown words
       → text ≡ usage_line
       → ending ≡ ended.Usage
+      → IsDue words bytes text ending
+  generated : (number : ℕ) → AsksGen words number
+      → IsSummary number text
+      → ending ≡ ended.Done
       → IsDue words bytes text ending
   too_long : AskInput words → most_bytes < length bytes
       → IsRefused (record { line = 0; word = TooLong }) text ending

@@ -31,7 +31,9 @@ use Rattle.pol_checker.specs.declared.verdict.Verdict.TheVariants.{Accepted, Unc
 use Rattle.pol_checker.specs.Verdicts.{IsVerdict}
 use Rattle.pol_checker.specs.VerdictTexts.{verdict_line}
 use Rattle.pol_cli.specs.Checks.{IsChecked}
-use Rattle.pol_cli.specs.Due.{IsDue, Begin, IsAlone, AsksReport, AskInput, AreKnown, report_words, check_words, items_behind, usage_line}
+use Rattle.pol_gen.specs.Files.{made_file}
+use Rattle.pol_cli.specs.Summaries.{IsSummary}
+use Rattle.pol_cli.specs.Due.{IsDue, Begin, IsAlone, AsksReport, AskInput, AsksGen, AreKnown, report_words, check_words, items_behind, usage_line}
 use Rattle.pol_cli.specs.Runs.{IsAnswer, WritesDue, WritesFront, HasRead, status_of, unflushed}
 use Rattle.pol_cli.specs.declared.ended.Ended.{Ended}
 use Rattle.pol_cli.specs.declared.ended.Ended.TheVariants as ended
@@ -198,6 +200,32 @@ OthersAreRefused =
     → parse bytes ≡ Err refusal
     → (new ≡ old ++ refusal_line refusal) × (ending ≡ ended.Refused refusal)
 
+-- a summary of the file that the number makes was appended, and nothing else
+pub record Summarizes (number : ℕ) (old new : List ℕ) (ending : Ended) : Type 0 where
+  pub text : List ℕ
+  pub summary : IsSummary number text
+  pub appended : new ≡ old ++ text
+  pub done : ending ≡ ended.Done
+
+-- where the sink tells what it holds, a number is answered by the summary of the file that it makes
+abbrev pub FilesAreSummarized : Type 0
+FilesAreSummarized =
+    (words : List (List ℕ)) (left : Option (List ℕ)) (old new : List ℕ) (ending : Ended) (number : ℕ)
+    → AsksGen words number
+    → WritesDue words left (Some old) (Some new) ending
+    → Summarizes number old new ending
+
+-- which is one text
+abbrev pub SummaryIsOne : Type 0
+SummaryIsOne = (number : ℕ) (one other : List ℕ) → IsSummary number one → IsSummary number other → one ≡ other
+
+-- and counts each instance once
+abbrev pub SummariesAddUp : Type 0
+SummariesAddUp =
+    (number : ℕ) (text : List ℕ)
+    → (summary : IsSummary number text)
+    → summary.tally.yes + summary.tally.no + summary.tally.undecided ≡ length (made_file number).instances
+
 -- the verdicts on the items were appended, and nothing else
 pub record Checks (file : FileView) (items : List Item) (old new : List ℕ) (ending : Ended) : Type 0 where
   pub text : List ℕ
@@ -254,6 +282,14 @@ FrontsOfReports =
     → IsAlone bytes found
     → WritesFront report_words (Some bytes) (Some old) (Some new)
     → (new ≡ old) ⊎ ((front text : List ℕ) × (new ≡ old ++ front) × CanBegin found.file text × Begins front text)
+
+-- what was appended where a file was to be generated is nothing, or the beginning of its summary
+abbrev pub FrontsOfSummaries : Type 0
+FrontsOfSummaries =
+    (words : List (List ℕ)) (left : Option (List ℕ)) (old new : List ℕ) (number : ℕ)
+    → AsksGen words number
+    → WritesFront words left (Some old) (Some new)
+    → (new ≡ old) ⊎ ((front text : List ℕ) × (new ≡ old ++ front) × IsSummary number text × Begins front text)
 
 -- what was appended where the items of a report were to be judged is nothing, or the beginning of their verdicts
 abbrev pub FrontsOfChecks : Type 0

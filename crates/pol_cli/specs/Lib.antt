@@ -1,5 +1,7 @@
 pub mod Reports
 pub mod Checks
+pub mod Summaries
+pub mod Tallies
 pub mod Due
 pub mod Runs
 pub mod Laws

@@ -3,6 +3,7 @@ ghost use Rattle.pol_cli.specs.Laws.{ItemsAreTrue, SolvableAreSolved, LogsRefute
 ghost use Rattle.pol_cli.specs.Laws.{ClassItemsArePrintable, InstanceItemsArePrintable};
 ghost use Rattle.pol_cli.specs.Laws.{DueIsDecided, FilesAreReported, OthersAreRefused, FrontsOfUsage, FrontsOfReports};
 ghost use Rattle.pol_cli.specs.Laws.{ReportsAreChecked, OtherReportsAreRefused, RejectedIsTold, FrontsOfChecks, OwnReportsPass};
+ghost use Rattle.pol_cli.specs.Laws.{FilesAreSummarized, SummaryIsOne, SummariesAddUp, FrontsOfSummaries};
 ghost use Rattle.pol_cli.specs.Laws.{InputsAreRead, FaultsReadFew, ReadFaultsReadFewer, StatusTells, ZeroIsDone, UnflushedIsCutOff};
 
 /// What a reader of a report may rely on, whole or begun.
@@ -42,4 +43,12 @@ pub fn check_laws()
     ensures rejected { RejectedIsTold }
     ensures fronts { FrontsOfChecks }
     ensures own { OwnReportsPass }
+{}
+
+/// What a reader of the summary of a generated file may rely on.
+pub fn summary_laws()
+    ensures summarized { FilesAreSummarized }
+    ensures one { SummaryIsOne }
+    ensures adds_up { SummariesAddUp }
+    ensures fronts { FrontsOfSummaries }
 {}

@@ -6,9 +6,10 @@ mod check;
 mod ended;
 mod laws;
 mod report;
+mod summary;
 mod top;
 mod words;
 
 pub use ended::{Ended, ending_without_words};
-pub use laws::{check_laws, report_laws, run_laws};
+pub use laws::{check_laws, report_laws, run_laws, summary_laws};
 pub use top::run;

@@ -5,13 +5,14 @@ ghost use Rattle.pol_outside.specs.Faults.{Rose};
 ghost use Rattle.pol_text.specs.Refusals.{refusal_line};
 ghost use Rattle.pol_lang.specs.Limits.{most_bytes};
 ghost use Rattle.pol_lang.specs.Reading.{parsed_of};
-ghost use Rattle.pol_cli.specs.Due.{AreKnown, AskInput, Begin, IsDue, task_words, report_words, check_words};
+ghost use Rattle.pol_cli.specs.Due.{AreKnown, AskInput, Begin, IsDue, input_words, report_words, check_words};
 ghost use Rattle.pol_cli.specs.Runs.{texts_of, IsAnswer, IsDueFor, WritesDue, WritesFront, HasRead, NotTooLong, Writes};
 
 use crate::Ended;
 use crate::check::checked;
 use crate::report::report_text;
-use crate::words::{Task, asked};
+use crate::summary::summary;
+use crate::words::{InputTask, Task, asked};
 use pol_base::{NoMemory, Values};
 use pol_lang::{File, Rest, nothing_more, read_file};
 use pol_outside::{Sink, Source, TakeFault, WriteFault, read_all, write_all};
@@ -25,12 +26,13 @@ const MOST_BYTES: u64 = 1 << 28;
 const USAGE: &[u8] = b"usage: polyanna report | polyanna check | polyanna gen N\n";
 
 /// Does what the words of the command line ask for. The words are those behind the program's name,
-/// and known where they are `report` alone or `check` alone: the first asks for the report of the file
-/// that is the input, the second for the verdicts on the items of the report that stands behind the
-/// file.
+/// and known where they are `report` alone, `check` alone, or `gen` and a token of 1 to 9 decimal
+/// digits: the first asks for the report of the file that is the input, the second for the verdicts
+/// on the items of the report that stands behind the file, and the last for the summary of the file
+/// that the number makes.
 ///
-/// The input is read to its end before anything is written.
-#[tactic(auto, using(crate::proofs::WordLemmas::words_ask))]
+/// An input is read to its end before anything is written.
+#[tactic(auto, using(crate::proofs::WordLemmas::words_ask, crate::proofs::WordLemmas::input_alone))]
 pub fn run<S: Source, O: Sink>(
     alloc: Global,
     words: &[String],
@@ -66,13 +68,17 @@ pub fn run<S: Source, O: Sink>(
         → ¬ Rose (O.faults sink.old) (O.faults sink.new)
         → IsAnswer result ⊎ (result ≡ Ended.NoMemory) }
 {
-    let Some(task) = asked(words) else {
-        return write(sink, USAGE, Ended::Usage);
-    };
-    match prepare(alloc, task, source) {
-        Ok((text, ended)) => write(sink, text.as_slice(), ended),
-        Err(Stop::ReadFault) => Ended::ReadFault,
-        Err(Stop::NoMemory) => Ended::NoMemory,
+    match asked(words) {
+        Some(Task::Input(task)) => match prepare(alloc, task, source) {
+            Ok((text, ended)) => write(sink, text.as_slice(), ended),
+            Err(Stop::ReadFault) => Ended::ReadFault,
+            Err(Stop::NoMemory) => Ended::NoMemory,
+        },
+        Some(Task::Gen(number)) => match summary(alloc, number) {
+            Ok(text) => write(sink, text.as_slice(), Ended::Done),
+            Err(NoMemory) => Ended::NoMemory,
+        },
+        None => write(sink, USAGE, Ended::Usage),
     }
 }
 
@@ -106,8 +112,12 @@ impl From<NoMemory> for Stop {
 }
 
 /// Reads the input to its end, and makes the text that is due for it.
-fn prepare<S: Source>(alloc: Global, task: Task, source: &mut S) -> Result<(Values, Ended), Stop>
-    ensures due { IfOk result (λ made. IsDueFor (task_words task) (S.left source.old) made.0 made.1) }
+fn prepare<S: Source>(
+    alloc: Global,
+    task: InputTask,
+    source: &mut S,
+) -> Result<(Values, Ended), Stop>
+    ensures due { IfOk result (λ made. IsDueFor (input_words task) (S.left source.old) made.0 made.1) }
     ensures answer { IfOk result (λ made. IsAnswer made.1) }
     ensures read { IfOk result (λ made. HasRead made.1 (S.left source.old) (S.left source.new)) }
     ensures taken { OnOk result (IsAtEnd (S.left source.new)
@@ -134,9 +144,9 @@ fn prepare<S: Source>(alloc: Global, task: Task, source: &mut S) -> Result<(Valu
 }
 
 /// What the task writes for the input, and how it ends.
-fn made(alloc: Global, task: Task, bytes: &[u8]) -> Result<(Values, Ended), NoMemory>
+fn made(alloc: Global, task: InputTask, bytes: &[u8]) -> Result<(Values, Ended), NoMemory>
     requires few { length bytes.now ≤ most_bytes }
-    ensures due { IfOk result (λ made. IsDue (task_words task) bytes.now made.0 made.1) }
+    ensures due { IfOk result (λ made. IsDue (input_words task) bytes.now made.0 made.1) }
     ensures answer { IfOk result (λ made. IsAnswer made.1) }
     ensures word { IfOk result (λ made. NotTooLong made.1) }
 {
@@ -146,8 +156,8 @@ fn made(alloc: Global, task: Task, bytes: &[u8]) -> Result<(Values, Ended), NoMe
         Err(ReadFail::NoMemory) => return Err(NoMemory),
     };
     match task {
-        Task::Report => report(alloc, bytes, &file, rest),
-        Task::Check => check(alloc, bytes, &file, rest),
+        InputTask::Report => report(alloc, bytes, &file, rest),
+        InputTask::Check => check(alloc, bytes, &file, rest),
     }
 }
 

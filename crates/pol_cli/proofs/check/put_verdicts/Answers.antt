@@ -1,4 +1,4 @@
-use Rattle.std.proofs.Common.{◌≡◌, ◌||◌, ◌+◌, Bool, sym, subst, take, arith}
+use Rattle.std.proofs.Common.{◌≡◌, ◌||◌, ◌+◌, Bool, subst, take, arith}
 use Rattle.pol_cli.specs.Checks.{AreJudged}
 use Rattle.pol_cli.proofs.CheckLemmas.{AreJudged-next, or-there, or-not_there}
 use Rattle.pol_cli.proofs.check.put_verdicts.Goals as goal

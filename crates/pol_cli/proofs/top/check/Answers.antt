@@ -1,6 +1,5 @@
-use Rattle.std.proofs.Common.{◌≡◌, Ok, Err, refl, subst}
+use Rattle.std.proofs.Common.{◌≡◌, Err, refl}
 use Rattle.pol_text.specs.Refusals.{refusal_line}
-use Rattle.pol_report.specs.Grammar.{items_of}
 use Rattle.pol_lang.specs.Reading.{parsed_of}
 use Rattle.pol_cli.specs.Due.{check_words, items_behind}
 use Rattle.pol_cli.specs.Due.IsDue.{unreadable}

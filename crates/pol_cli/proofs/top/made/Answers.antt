@@ -1,7 +1,7 @@
 use Rattle.std.proofs.Common.{refl}
 use Rattle.pol_text.specs.Refusals.{refusal_line}
 use Rattle.pol_lang.proofs.RefusalWords.{parse-word}
-use Rattle.pol_cli.specs.Due.{task_words}
+use Rattle.pol_cli.specs.Due.{input_words}
 use Rattle.pol_cli.specs.Due.IsDue.{refused}
 use Rattle.pol_cli.specs.declared.ended.Ended.TheVariants as ended
 use Rattle.pol_cli.proofs.WordLemmas.{asks_input}
@@ -14,7 +14,7 @@ returns-in-Err-Refused-clause-due c =
     let parsed = rw c.in-Err-Refused.field-0-is at c.in-Err-Refused.ensures.reads in
     let refusal = c.in-Err-Refused.refusal in
     let due = refused (asks_input c.args.task) c.requires.few refusal parsed (record { text_is = refl; ending_is = refl }) in
-    due-made c.refused.result (task_words c.args.task) c.args.bytes.now (refusal_line refusal) (ended.Refused refusal) (rw c.in-Err-Refused.field-0-is at c.refused.ensures.refused) due
+    due-made c.refused.result (input_words c.args.task) c.args.bytes.now (refusal_line refusal) (ended.Refused refusal) (rw c.in-Err-Refused.field-0-is at c.refused.ensures.refused) due
 
 pub returns-in-Err-Refused-clause-word : goal.returns-in-Err-Refused-clause-word
 returns-in-Err-Refused-clause-word c =

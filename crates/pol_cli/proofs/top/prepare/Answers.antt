@@ -1,5 +1,5 @@
 use Rattle.std.proofs.Common.{refl, sym, subst, rules}
-use Rattle.pol_cli.specs.Due.{task_words}
+use Rattle.pol_cli.specs.Due.{input_words}
 use Rattle.pol_cli.specs.Runs.{IsDueFor}
 use Rattle.pol_cli.proofs.WordLemmas.{asks_input}
 use Rattle.pol_cli.proofs.DueLemmas.{due-too_long, told_all, read_all}
@@ -15,6 +15,6 @@ returns-in_ok-made-in-Ok-clause-read g c = read_all _ _ _ c.in_ok-made-in-Ok.ens
 
 pub returns-in_ok-refused-in-Err-TooLong-clause-due : goal.returns-in_ok-refused-in-Err-TooLong-clause-due
 returns-in_ok-refused-in-Err-TooLong-clause-due g c =
-    let words = task_words c.args.task in
+    let words = input_words c.args.task in
     subst (λ pair. IsDueFor words (g.S.Source.left c.args.source.now) pair.0 pair.1) (sym c.in_ok-refused-in-Err-TooLong.ensures.refused)
     (due-too_long words _ (g.S.Source.left c.read_all.new.source) _ (asks_input c.args.task) refl (c.in-Err-TooLong.ensures.too_long (search rules)))

@@ -1,4 +1,4 @@
-use Rattle.std.proofs.Common.{◌≡◌, ◌↔◌, IsTrue, sym, subst, ap₂, ◌∙◌}
+use Rattle.std.proofs.Common.{◌≡◌, ◌↔◌, IsTrue, sym, subst}
 use Rattle.pol_base.specs.Lists.{is_same}
 use Rattle.pol_base.proofs.LookupLemmas.{is_same-decides}
 use Rattle.pol_cli.proofs.words.is_word.Goals as goal
