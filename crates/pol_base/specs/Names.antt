@@ -1,7 +1,8 @@
 -- The words of the classes, as they stand in the texts.
 use Rattle.std.specs.Prelude.{ℕ, List, codes}
 use Rattle.pol_base.specs.declared.class_name.ClassName.{ClassName}
-use Rattle.pol_base.specs.declared.class_name.ClassName.TheVariants.{Constant, Semilattice, SetFunction, Majority, Nu4, Affine, Maltsev}
+use Rattle.pol_base.specs.declared.class_name.ClassName.TheVariants.{Constant, Semilattice, SetFunction, Majority}
+use Rattle.pol_base.specs.declared.class_name.ClassName.TheVariants.{Nu4, Affine, Maltsev}
 
 -- the word of a class in the texts
 abbrev pub class_word : ClassName → List ℕ

@@ -1,5 +1,6 @@
 -- Tuples of values below d, their lexicographic order, and the cells that they number.
-use Rattle.std.specs.Prelude.{ℕ, ◌≤◌, [], ◌≡◌, ◌<◌, List, length, All, ◌⊎◌, ◌∷◌, ◌+◌, ◌*◌, ◌^◌, zero, suc, ◌/◌, ◌%◌}
+use Rattle.std.specs.Prelude.{ℕ, ◌≤◌, [], ◌≡◌, ◌<◌, List, length, All, ◌⊎◌, ◌∷◌}
+use Rattle.std.specs.Prelude.{◌+◌, ◌*◌, ◌^◌, zero, suc, ◌/◌, ◌%◌}
 
 -- a domain has 1 to 5 values, the numbers below its size
 pub record IsDomain (d : ℕ) : Type 0 where

@@ -10,7 +10,8 @@ use Rattle.pol_modp.specs.declared.checking.CombFault.TheVariants as fault
 use Rattle.pol_report.specs.declared.item.Item.{Item}
 use Rattle.pol_report.specs.declared.item.Item.TheVariants as item
 use Rattle.pol_checker.specs.declared.verdict.Cause.{Cause}
-use Rattle.pol_checker.specs.declared.verdict.Cause.TheVariants.{Unknown, Size, Identity, Breaks, Assignment, Constraint, BadLog, BadSum}
+use Rattle.pol_checker.specs.declared.verdict.Cause.TheVariants.{Unknown, Size, Identity, Breaks, Assignment}
+use Rattle.pol_checker.specs.declared.verdict.Cause.TheVariants.{Constraint, BadLog, BadSum}
 use Rattle.pol_checker.specs.declared.verdict.Verdict.{Verdict}
 use Rattle.pol_checker.specs.declared.verdict.Verdict.TheVariants.{Accepted, Unchecked, Rejected}
 

@@ -1,7 +1,8 @@
 -- The verdict on an item of a report.
 use Rattle.std.specs.Prelude.{◌≡◌, ℕ, ◌<◌, ⊤, List, length, Contains}
 use Rattle.pol_base.specs.declared.class_name.ClassName.{ClassName}
-use Rattle.pol_base.specs.declared.class_name.ClassName.TheVariants.{Constant, Semilattice, SetFunction, Majority, Nu4, Affine, Maltsev}
+use Rattle.pol_base.specs.declared.class_name.ClassName.TheVariants.{Constant, Semilattice, SetFunction, Majority}
+use Rattle.pol_base.specs.declared.class_name.ClassName.TheVariants.{Nu4, Affine, Maltsev}
 use Rattle.pol_base.specs.Tuples.{IsTuple}
 use Rattle.pol_relation.specs.Relations.{LanguageView, relation_of}
 use Rattle.pol_relation.specs.Instances.{InstanceView, IsSolution, Meets, constraint_of}
@@ -17,7 +18,8 @@ use Rattle.pol_lang.specs.Files.{FileView, instance_names, instance_of}
 use Rattle.pol_report.specs.declared.item.Item.{Item}
 use Rattle.pol_report.specs.declared.item.Item.TheVariants as item
 use Rattle.pol_checker.specs.declared.verdict.Cause.{Cause}
-use Rattle.pol_checker.specs.declared.verdict.Cause.TheVariants.{Unknown, Size, Identity, Breaks, Assignment, Constraint, BadLog, BadSum}
+use Rattle.pol_checker.specs.declared.verdict.Cause.TheVariants.{Unknown, Size, Identity, Breaks, Assignment}
+use Rattle.pol_checker.specs.declared.verdict.Cause.TheVariants.{Constraint, BadLog, BadSum}
 use Rattle.pol_checker.specs.declared.verdict.Verdict.{Verdict}
 use Rattle.pol_checker.specs.declared.verdict.Verdict.TheVariants.{Accepted, Unchecked, Rejected}
 

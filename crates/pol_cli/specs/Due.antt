@@ -1,5 +1,7 @@
 -- What a run has to write and how it ends, for the words of the command line and the bytes of the input.
-use Rattle.std.specs.Prelude.{◌≡◌, ℕ, ◌<◌, ◌≤◌, ◌⊎◌, List, [], ◌∷◌, ◌++◌, length, drop, Some, None, Result, Ok, Err, codes}
+use Rattle.std.specs.Prelude.{◌≡◌, ℕ, ◌<◌, ◌≤◌, ◌⊎◌, List, [], ◌∷◌, ◌++◌, length}
+use Rattle.std.specs.Prelude.{drop, Some, None, Result, Ok, Err}
+use Rattle.std.specs.Prelude.{codes}
 use Rattle.pol_text.specs.Lines.{number_of}
 use Rattle.pol_text.specs.declared.refusal.Refusal.{Refusal}
 use Rattle.pol_text.specs.declared.word.Word.TheVariants.{AfterEnd, TooLong}
@@ -50,7 +52,8 @@ AskInput words = AsksReport words ⊎ AsksCheck words
 
 -- the words ask for the summary of the file that the number makes
 abbrev pub AsksGen : List (List ℕ) → ℕ → Type 0
-AsksGen words number = (token : List ℕ) × (words ≡ codes "gen" ∷ token ∷ []) × (number_of token ≡ Some number)
+AsksGen words number = (token : List ℕ) × (words ≡ codes "gen" ∷ token ∷ [])
+    × (number_of token ≡ Some number)
 
 -- the words ask for the task
 abbrev pub Asks : List (List ℕ) → Task → Type 0

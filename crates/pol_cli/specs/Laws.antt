@@ -1,5 +1,7 @@
 -- What a reader of a report, of verdicts and of a run may rely on.
-use Rattle.std.specs.Prelude.{◌≡◌, ℕ, ◌+◌, ◌<◌, ◌≤◌, ◌⊎◌, ◌↔◌, List, [], ◌∷◌, ◌++◌, length, Option, Some, None, Ok, Err, ⊤, Any}
+use Rattle.std.specs.Prelude.{◌≡◌, ℕ, ◌+◌, ◌<◌, ◌≤◌, ◌⊎◌, ◌↔◌, List, [], ◌∷◌}
+use Rattle.std.specs.Prelude.{◌++◌, length, Option, Some, None, Ok}
+use Rattle.std.specs.Prelude.{Err, ⊤, Any}
 use Rattle.std.specs.Prelude.{IsSomeAnd, slice_get, slice_index_or}
 use Rattle.pol_base.specs.declared.class_name.ClassName.{ClassName}
 use Rattle.pol_base.specs.declared.class_name.ClassName.TheVariants.{Constant, Affine, Maltsev}
@@ -33,7 +35,8 @@ use Rattle.pol_checker.specs.VerdictTexts.{verdict_line}
 use Rattle.pol_cli.specs.Checks.{IsChecked}
 use Rattle.pol_gen.specs.Files.{made_file}
 use Rattle.pol_cli.specs.Summaries.{IsSummary}
-use Rattle.pol_cli.specs.Due.{IsDue, Begin, IsAlone, AsksReport, AskInput, AsksGen, AreKnown, report_words, check_words, items_behind, usage_line}
+use Rattle.pol_cli.specs.Due.{IsDue, Begin, IsAlone, AsksReport, AskInput, AsksGen, AreKnown, report_words}
+use Rattle.pol_cli.specs.Due.{check_words, items_behind, usage_line}
 use Rattle.pol_cli.specs.Runs.{IsAnswer, WritesDue, WritesFront, HasRead, status_of, unflushed}
 use Rattle.pol_cli.specs.declared.ended.Ended.{Ended}
 use Rattle.pol_cli.specs.declared.ended.Ended.TheVariants as ended
@@ -217,7 +220,8 @@ FilesAreSummarized =
 
 -- which is one text
 abbrev pub SummaryIsOne : Type 0
-SummaryIsOne = (number : ℕ) (one other : List ℕ) → IsSummary number one → IsSummary number other → one ≡ other
+SummaryIsOne = (number : ℕ) (one other : List ℕ) → IsSummary number one → IsSummary number other
+    → one ≡ other
 
 -- and counts each instance once
 abbrev pub SummariesAddUp : Type 0
@@ -281,7 +285,8 @@ FrontsOfReports =
     (bytes old new : List ℕ) (found : Parsed)
     → IsAlone bytes found
     → WritesFront report_words (Some bytes) (Some old) (Some new)
-    → (new ≡ old) ⊎ ((front text : List ℕ) × (new ≡ old ++ front) × CanBegin found.file text × Begins front text)
+    → (new ≡ old) ⊎
+    ((front text : List ℕ) × (new ≡ old ++ front) × CanBegin found.file text × Begins front text)
 
 -- what was appended where a file was to be generated is nothing, or the beginning of its summary
 abbrev pub FrontsOfSummaries : Type 0
@@ -289,7 +294,8 @@ FrontsOfSummaries =
     (words : List (List ℕ)) (left : Option (List ℕ)) (old new : List ℕ) (number : ℕ)
     → AsksGen words number
     → WritesFront words left (Some old) (Some new)
-    → (new ≡ old) ⊎ ((front text : List ℕ) × (new ≡ old ++ front) × IsSummary number text × Begins front text)
+    → (new ≡ old) ⊎
+    ((front text : List ℕ) × (new ≡ old ++ front) × IsSummary number text × Begins front text)
 
 -- what was appended where the items of a report were to be judged is nothing, or the beginning of their verdicts
 abbrev pub FrontsOfChecks : Type 0

@@ -1,5 +1,7 @@
 -- What a run takes of its input and writes to its output. Contents that are not told are any bytes.
-use Rattle.std.specs.Prelude.{◌≡◌, ◌≢◌, ℕ, ◌+◌, ◌⊎◌, List, map, Option, Some, None, String, string_bytes, Result, Ok, Err, ⊤}
+use Rattle.std.specs.Prelude.{◌≡◌, ◌≢◌, ℕ, ◌+◌, ◌⊎◌, List, map, Option, Some, None, String}
+use Rattle.std.specs.Prelude.{string_bytes, Result, Ok}
+use Rattle.std.specs.Prelude.{Err, ⊤}
 use Rattle.std.specs.Io.KnownBytes.{Appends, IsAtEnd}
 use Rattle.std.specs.declared.io.ErrorKind.{ErrorKind}
 use Rattle.std.specs.declared.io.ErrorKind.TheVariants as kind
@@ -32,7 +34,8 @@ IsAnswer ended.WriteFault = ⊥
 IsAnswer ended.NoMemory = ⊥
 
 -- the text is due with the ending, for what was left of the input
-pub record IsDueFor (words : List (List ℕ)) (left : Option (List ℕ)) (text : List ℕ) (ending : Ended) : Type 0 where
+pub record IsDueFor (words : List (List ℕ)) (left : Option (List ℕ)) (text : List ℕ)
+    (ending : Ended) : Type 0 where
   pub bytes : List ℕ
   pub told : Told left bytes
   pub due : IsDue words bytes text ending

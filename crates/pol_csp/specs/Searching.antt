@@ -7,7 +7,8 @@ use Rattle.pol_relation.specs.Instances.{ConstraintView, FitsAt}
 use Rattle.pol_csp.specs.Narrowing.{MeetsAll, Rejects}
 
 -- constraints of the language over n cells that every list of W meets
-pub record FollowFrom (W : List ℕ → Type 0) (lang : LanguageView) (n : ℕ) (pool : List ConstraintView) : Type 0 where
+pub record FollowFrom (W : List ℕ → Type 0) (lang : LanguageView) (n : ℕ)
+    (pool : List ConstraintView) : Type 0 where
   pub fits : All (FitsAt lang n) pool
   pub met : (xs : List ℕ) → W xs → MeetsAll lang pool xs
 

@@ -41,7 +41,8 @@ pub record IsNumbered (ties : List ℕ) (count : ℕ) (firsts variables : List �
 pub record AreShared (firsts variables cells masks : List ℕ) : Type 0 where
   pub long : length masks ≡ length firsts
   pub are_masks : (d : ℕ) → AreMasks d cells → AreMasks d masks
-  pub within : (xs : List ℕ) → length xs ≡ length firsts → IsWithin masks xs ↔ IsWithin cells (read_at xs variables)
+  pub within : (xs : List ℕ) → length xs ≡ length firsts
+      → IsWithin masks xs ↔ IsWithin cells (read_at xs variables)
 
 -- the constraint on cells, as one on their variables
 abbrev pub on_variables : List ℕ → ConstraintView → ConstraintView

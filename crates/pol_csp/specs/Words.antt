@@ -1,5 +1,6 @@
 -- The rows of a relation as the bits of words. A word that has further bits does no harm.
-use Rattle.std.specs.Prelude.{◌≡◌, ◌<◌, ◌≤◌, ◌*◌, ◌/◌, ◌%◌, ℕ, List, [], length, slice_index, slice_index_or}
+use Rattle.std.specs.Prelude.{◌≡◌, ◌<◌, ◌≤◌, ◌*◌, ◌/◌, ◌%◌, ℕ, List, [], length}
+use Rattle.std.specs.Prelude.{slice_index, slice_index_or}
 use Rattle.std.specs.Prelude.{IsBitSet, Option, Some, None}
 use Rattle.pol_relation.specs.Relations.{LanguageView, RelationView, relation_of}
 

@@ -1,5 +1,6 @@
 -- The file that a number makes.
-use Rattle.std.specs.Prelude.{ℕ, zero, suc, Bool, ◌/◌, ◌%◌, ◌==◌, nat_lt, if◌then◌else◌, List, [], ◌∷◌, ◌++◌, map, All}
+use Rattle.std.specs.Prelude.{ℕ, zero, suc, Bool, ◌/◌, ◌%◌, ◌==◌, nat_lt, if◌then◌else◌, List, []}
+use Rattle.std.specs.Prelude.{◌∷◌, ◌++◌, map, All}
 use Rattle.std.specs.List.{filter, list_any, range_with_len}
 use Rattle.pol_base.specs.Lists.{is_among}
 use Rattle.pol_relation.specs.Relations.{LanguageView, rows_of}

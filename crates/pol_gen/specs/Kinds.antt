@@ -1,5 +1,7 @@
 -- The kinds of languages: their relations, and what the instances over them have in common.
-use Rattle.std.specs.Prelude.{ℕ, Bool, not, ◌==◌, ◌^◌, ◌%◌, ◌++◌, List, [], ◌∷◌, map, slice_index, unwrap_or, codes, if◌then◌else◌, true, ◌&&◌}
+use Rattle.std.specs.Prelude.{ℕ, Bool, not, ◌==◌, ◌^◌, ◌%◌, ◌++◌, List, [], ◌∷◌, map}
+use Rattle.std.specs.Prelude.{slice_index, unwrap_or, codes}
+use Rattle.std.specs.Prelude.{if◌then◌else◌, true, ◌&&◌}
 use Rattle.std.specs.List.{range_with_len, sum, filter, list_all}
 use Rattle.std.specs.Cmp.Lexicographic.{slice_cmp}
 use Rattle.std.specs.Ordering.{nat_cmp, is_lt}
@@ -76,7 +78,8 @@ abbrev pub parity_language : LanguageView
 parity_language = record {
   domain = 3;
   relations =
-      relation_with (codes "parity") 3 3 ((0 ∷ 0 ∷ 0 ∷ []) ∷ (0 ∷ 1 ∷ 1 ∷ []) ∷ (1 ∷ 0 ∷ 1 ∷ []) ∷ (1 ∷ 1 ∷ 0 ∷ []) ∷ [])
+      relation_with (codes "parity") 3 3
+      ((0 ∷ 0 ∷ 0 ∷ []) ∷ (0 ∷ 1 ∷ 1 ∷ []) ∷ (1 ∷ 0 ∷ 1 ∷ []) ∷ (1 ∷ 1 ∷ 0 ∷ []) ∷ [])
       ∷ relation_with (codes "swap") 3 2 ((0 ∷ 1 ∷ []) ∷ (1 ∷ 0 ∷ []) ∷ (2 ∷ 2 ∷ []) ∷ [])
       ∷ relation_with (codes "two") 3 1 ((2 ∷ []) ∷ [])
       ∷ [];
@@ -130,7 +133,9 @@ contradiction Horn = constraint_on Horn (codes "one") (0 ∷ []) ∷ constraint_
 contradiction TwoSat =
     constraint_on TwoSat (codes "or") (0 ∷ 0 ∷ []) ∷ constraint_on TwoSat (codes "nand") (0 ∷ 0 ∷ []) ∷ []
 contradiction Sums =
-    constraint_on Sums (codes "s0") (0 ∷ 1 ∷ 2 ∷ []) ∷ constraint_on Sums (codes "s1") (0 ∷ 1 ∷ 2 ∷ []) ∷ []
+    constraint_on Sums (codes "s0") (0 ∷ 1 ∷ 2 ∷ [])
+    ∷ constraint_on Sums (codes "s1") (0 ∷ 1 ∷ 2 ∷ []) ∷ []
 contradiction Parity =
-    constraint_on Parity (codes "parity") (0 ∷ 0 ∷ 0 ∷ []) ∷ constraint_on Parity (codes "two") (0 ∷ []) ∷ []
+    constraint_on Parity (codes "parity") (0 ∷ 0 ∷ 0 ∷ [])
+    ∷ constraint_on Parity (codes "two") (0 ∷ []) ∷ []
 contradiction Colours = constraint_on Colours (codes "neq") (0 ∷ 0 ∷ []) ∷ []

@@ -15,7 +15,8 @@ cells_long K f is = subst (λ (k : ℕ). length f.cells ≡ f.domain ^ k) is.ari
 pub obeys_by_digits :
     (K : ℕ) (f : Operation) (rule : ℕ → CellRule)
     → IsOpTable K f
-    → ((cell : ℕ) → cell < f.domain ^ K → Obeys f.cells (cell_of f.domain (digits_of f.domain K cell)) (rule cell))
+    → ((cell : ℕ) → cell < f.domain ^ K
+    → Obeys f.cells (cell_of f.domain (digits_of f.domain K cell)) (rule cell))
     → ObeysAll f.cells rule
 obeys_by_digits K f rule is obeys cell known =
     let within : cell < f.domain ^ K = subst (λ (n : ℕ). cell < n) (cells_long K f is) known in

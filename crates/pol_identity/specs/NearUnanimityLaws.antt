@@ -1,5 +1,7 @@
 -- Near unanimity operations obey their rules.
-use Rattle.std.proofs.Common.{◌≡◌, ℕ, ◌+◌, ◌^◌, ◌<◌, ◌≤◌, List, [], ◌∷◌, length, sym, ◌∙◌, subst, refl, Bool, true, false, cond, Option, Some, None, All, inl, inr}
+use Rattle.std.proofs.Common.{◌≡◌, ℕ, ◌+◌, ◌^◌, ◌<◌, ◌≤◌, List, [], ◌∷◌, length, sym}
+use Rattle.std.proofs.Common.{◌∙◌, subst, refl, Bool, true}
+use Rattle.std.proofs.Common.{false, cond, Option, Some, None, All, inl, inr}
 use Rattle.std.specs.Prelude.{◌==◌, nat_le}
 use Rattle.std.specs.List.{count_by, find}
 use Rattle.std.proofs.lemmas.Bool.{true≢false}
@@ -27,7 +29,8 @@ find_passes test (y ∷ xs) x found = by (test y) refl found (find_passes test x
     by false fails there behind = behind there
 
 -- what is found is one of the list
-find_within : (test : ℕ → Bool) (P : ℕ → Type 0) (xs : List ℕ) (x : ℕ) → All P xs → find test xs ≡ Some x → P x
+find_within : (test : ℕ → Bool) (P : ℕ → Type 0) (xs : List ℕ) (x : ℕ) → All P xs
+    → find test xs ≡ Some x → P x
 find_within test P [] x all found = absurd (none-some x found)
 find_within test P (y ∷ xs) x all found = by (test y) found (find_within test P xs x (All-tail P y xs all))
   where
@@ -59,7 +62,8 @@ forced_within P arguments x all forced =
     find_within (λ v. nat_le (length arguments) (count_by (λ y. y == v) arguments + 1)) P arguments x all forced
 
 -- a rule names a value of the domain
-pub near_unanimity_ruled : (d K cell : ℕ) → 1 ≤ d → cell < d ^ K → IsRule d cell (near_unanimity_rule d K cell)
+pub near_unanimity_ruled : (d K cell : ℕ) → 1 ≤ d → cell < d ^ K
+    → IsRule d cell (near_unanimity_rule d K cell)
 near_unanimity_ruled d K cell some known = by (forced_value (digits_of d K cell)) refl
   where
     tuple : IsTuple d K (digits_of d K cell)
@@ -79,7 +83,8 @@ module _ (K : ℕ) (f : Operation) (is : IsOpTable K f) (near : IsNearUnanimity 
       let tuple_of_f : IsTuple f.domain f.arity arguments
       = subst (λ (k : ℕ). IsTuple f.domain k arguments) (sym is.arity_is) tuple in
       let most : f.arity ≤ count_by (λ y. y == x) arguments + 1
-      = subst (λ (k : ℕ). k ≤ count_by (λ y. y == x) arguments + 1) tuple_of_f.long (forced_most arguments x forced) in
+      = subst (λ (k : ℕ). k ≤ count_by (λ y. y == x) arguments + 1) tuple_of_f.long
+      (forced_most arguments x forced) in
       near.most arguments x tuple_of_f (forced_within (λ v. v < f.domain) arguments x tuple.below forced) most
 
   -- a near unanimity operation obeys every rule

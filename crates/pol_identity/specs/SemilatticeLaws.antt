@@ -1,5 +1,7 @@
 -- Semilattice operations obey their rules.
-use Rattle.std.proofs.Common.{◌≡◌, ℕ, ◌^◌, ◌<◌, ◌≤◌, List, [], ◌∷◌, subst, refl, Bool, true, false, cond, All, slice_index, lit<, inl}
+use Rattle.std.proofs.Common.{◌≡◌, ℕ, ◌^◌, ◌<◌, ◌≤◌, List, [], ◌∷◌, subst, refl, Bool}
+use Rattle.std.proofs.Common.{true, false, cond, All}
+use Rattle.std.proofs.Common.{slice_index, lit<, inl}
 use Rattle.std.specs.Prelude.{◌==◌, nat_lt}
 use Rattle.std.proofs.lemmas.Bool.Decides.{Decides-eqb, Decides-ltb}
 use Rattle.std.proofs.lemmas.List.Elements.{All-cons, All-nil}
@@ -19,7 +21,8 @@ abbrev pub rule_by : (p q : Bool) (x other : ℕ) → CellRule
 rule_by p q x other = cond p (Value x) (cond q (SameAs other) Free)
 
 -- it names a value of the domain, or a lower cell where its second test passes
-ruled_by : (d cell x other : ℕ) (p q : Bool) → x < d → (q ≡ true → other < cell) → IsRule d cell (rule_by p q x other)
+ruled_by : (d cell x other : ℕ) (p q : Bool) → x < d → (q ≡ true → other < cell)
+    → IsRule d cell (rule_by p q x other)
 ruled_by d cell x other true q below lower = below
 ruled_by d cell x other false true below lower = lower refl
 ruled_by d cell x other false false below lower = tt

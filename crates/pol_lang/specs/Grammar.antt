@@ -1,6 +1,8 @@
 -- The grammar of files: which texts are accepted, as which file, and the first refusal of every other text.
 -- Each test of a line stands on a line of its own, and the first that fails gives the word.
-use Rattle.std.specs.Prelude.{ℕ, ◌+◌, ◌-◌, ◌^◌, ◌==◌, nat_lt, nat_le, ◌&&◌, not, if◌then◌else◌, List, [], ◌∷◌, ◌++◌, length, drop, codes, Option, Some, None, Result, Ok, Err}
+use Rattle.std.specs.Prelude.{ℕ, ◌+◌, ◌-◌, ◌^◌, ◌==◌, nat_lt, nat_le, ◌&&◌, not}
+use Rattle.std.specs.Prelude.{if◌then◌else◌, List, [], ◌∷◌, ◌++◌}
+use Rattle.std.specs.Prelude.{length, drop, codes, Option, Some, None, Result, Ok, Err}
 use Rattle.pol_base.specs.Lists.{is_among, place_in}
 use Rattle.pol_relation.specs.Relations.{LanguageView, names_of, last_of, with_last_row, relation_of}
 use Rattle.pol_relation.specs.Weights.{subset_weight_of, weight_of, most_weight}
@@ -8,8 +10,14 @@ use Rattle.pol_text.specs.Lines.{LineView, lines_of, significant_lines, token_at
 use Rattle.pol_text.specs.Reading.{unless, after_number, after_values, after_line, begins_with, end_line}
 use Rattle.pol_text.specs.declared.refusal.Refusal.{Refusal}
 use Rattle.pol_text.specs.declared.word.Word.{Word}
-use Rattle.pol_text.specs.declared.word.Word.TheVariants.{NoHeader, BadVersion, BadDomain, BadLine, BadNumber, BadName, RepeatedName, BadArity, ValueOutside, ShortTuple, LongTuple, TooManyRelations, TooManyTuples, TooManyInstances, TooManyVariables, TooManyConstraints, TripleLimit, SubsetLimit, UnknownRelation, UnknownVariable, Ended}
-use Rattle.pol_lang.specs.Files.{FileView, instance_names, with_empty_relation, with_language, begun_instance, with_instance, last_instance, with_last_constraint, Parsed}
+use Rattle.pol_text.specs.declared.word.Word.TheVariants.{NoHeader, BadVersion, BadDomain, BadLine, BadNumber}
+use Rattle.pol_text.specs.declared.word.Word.TheVariants.{BadName, RepeatedName, BadArity, ValueOutside, ShortTuple}
+use Rattle.pol_text.specs.declared.word.Word.TheVariants.{LongTuple, TooManyRelations, TooManyTuples}
+use Rattle.pol_text.specs.declared.word.Word.TheVariants.{TooManyInstances, TooManyVariables, TooManyConstraints}
+use Rattle.pol_text.specs.declared.word.Word.TheVariants.{TripleLimit, SubsetLimit, UnknownRelation, UnknownVariable}
+use Rattle.pol_text.specs.declared.word.Word.TheVariants.{Ended}
+use Rattle.pol_lang.specs.Files.{FileView, instance_names, with_empty_relation, with_language, begun_instance}
+use Rattle.pol_lang.specs.Files.{with_instance, last_instance, with_last_constraint, Parsed}
 use Rattle.pol_lang.specs.Limits.{most_relations, most_tuples, most_instances, most_variables, most_constraints}
 
 -- ---- the first two lines
@@ -100,7 +108,8 @@ names_of_tokens before (t ∷ ts) =
     (names_of_tokens (before ++ t ∷ []) ts))
 
 -- what comes next with the names, and else the word
-abbrev pub after_names : {A : Type 0} → Result (List (List ℕ)) Word → (List (List ℕ) → Result A Word) → Result A Word
+abbrev pub after_names : {A : Type 0} → Result (List (List ℕ)) Word → (List (List ℕ) → Result A Word)
+    → Result A Word
 after_names (Err word) next = Err word
 after_names (Ok names) next = next names
 

@@ -12,7 +12,8 @@ pub record IsMadeOfPair (f : Operation) (n i : ℕ) (rows : List (List ℕ)) (w 
   pub made : u ≡ image f n (w ∷ pair.one ∷ pair.other ∷ [])
 
 -- the rows and roots of place i that are made of rows that represent the set
-pub record IsMadeOfRows (f : Operation) (n i : ℕ) (rows : List (List ℕ)) (row : ℕ → List ℕ) (root : ℕ → ℕ)
+pub record IsMadeOfRows (f : Operation) (n i : ℕ) (rows : List (List ℕ)) (row : ℕ → List ℕ)
+    (root : ℕ → ℕ)
     : Type 0 where
   pub gone : (a : ℕ) → a < f.domain → root a < f.domain → InSignature (Contains rows) i a a
   pub chosen : (a : ℕ) → a < f.domain → InSignature (Contains rows) i a a
@@ -34,4 +35,5 @@ pub record IsValueOfRows (f : Operation) (n i : ℕ) (rows : List (List ℕ)) (s
   pub chosen : InSignature (Contains rows) i a a → IsLeastOf f.domain (λ b. InSignature (Contains rows) i b a) root
   pub listed : root ≡ a → Contains rows row
   pub there : root ≡ a → slice_index row i ≡ a
-  pub moved : InSignature (Contains rows) i a a → (root ≡ a → ⊥) → IsMadeOfPair f n i rows (smaller root) root a row
+  pub moved : InSignature (Contains rows) i a a → (root ≡ a → ⊥)
+      → IsMadeOfPair f n i rows (smaller root) root a row

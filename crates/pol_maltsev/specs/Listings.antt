@@ -26,13 +26,15 @@ values_in v p count = sum_below count (λ a. cond (same_in v p a a) 1 0)
 pub record AreRowsOf (v : TableView) (r : RowsView) : Type 0 where
   pub shape : HaveSameShape v r
   pub only : All (IsRowOf v) r.rows
-  pub each : (p a : ℕ) → p < v.width → a < v.domain → root_in v p a < v.domain → Contains r.rows (row_in v p a)
+  pub each : (p a : ℕ) → p < v.width → a < v.domain → root_in v p a < v.domain
+      → Contains r.rows (row_in v p a)
   pub few : length r.rows ≤ sum_below v.width (λ p. values_in v p v.domain)
 
 -- the same for the first k places, and of the next for the first values
 pub record AreRowsBefore (v : TableView) (k count : ℕ) (r : RowsView) : Type 0 where
   pub shape : HaveSameShape v r
   pub only : All (IsRowOf v) r.rows
-  pub each : (p a : ℕ) → p < k ⊎ ((p ≡ k) × (a < count)) → p < v.width → a < v.domain → root_in v p a < v.domain
+  pub each : (p a : ℕ) → p < k ⊎ ((p ≡ k) × (a < count)) → p < v.width → a < v.domain
+      → root_in v p a < v.domain
       → Contains r.rows (row_in v p a)
   pub few : length r.rows ≤ sum_below k (λ p. values_in v p v.domain) + values_in v k count

@@ -1,5 +1,6 @@
 -- Sets of tuples that an operation preserves, their closures and representations.
-use Rattle.std.specs.Prelude.{◌≡◌, ◌<◌, ◌≤◌, ◌*◌, ℕ, List, [], ◌∷◌, length, take, slice_index, All, Contains}
+use Rattle.std.specs.Prelude.{◌≡◌, ◌<◌, ◌≤◌, ◌*◌, ℕ, List, [], ◌∷◌, length, take}
+use Rattle.std.specs.Prelude.{slice_index, All, Contains}
 use Rattle.pol_base.specs.Tuples.{IsTuple}
 use Rattle.pol_relation.specs.Relations.{LanguageView}
 use Rattle.pol_relation.specs.Instances.{InstanceView, read_at, Meets}

@@ -1,5 +1,7 @@
 -- What is made of a table where its set shrinks to the members that some first places decide.
-use Rattle.std.specs.Prelude.{◌≡◌, ◌<◌, ℕ, List, [], ◌∷◌, slice_index, slice_index_or, length, All, Contains, if◌then◌else◌, ◌==◌}
+use Rattle.std.specs.Prelude.{◌≡◌, ◌<◌, ℕ, List, [], ◌∷◌, slice_index, slice_index_or, length, All}
+use Rattle.std.specs.Prelude.{Contains}
+use Rattle.std.specs.Prelude.{if◌then◌else◌, ◌==◌}
 use Rattle.pol_relation.specs.Instances.{read_at}
 use Rattle.pol_optable.specs.Operations.{Operation, value_at}
 use Rattle.pol_maltsev.specs.Representations.{ReadsRow}
@@ -40,7 +42,8 @@ pub record HasListed (rows : List (List ℕ)) (j a : ℕ) : Type 0 where
   pub at : slice_index member j ≡ a
 
 -- a listed member with c at j agrees with the base of b at S
-pub record SharesBase (rows : List (List ℕ)) (S : ℕ → Type 0) (j : ℕ) (base : ℕ → List ℕ) (c b : ℕ) : Type 0 where
+pub record SharesBase (rows : List (List ℕ)) (S : ℕ → Type 0) (j : ℕ) (base : ℕ → List ℕ)
+    (c b : ℕ) : Type 0 where
   pub owner : HasListed rows j b
   pub member : List ℕ
   pub listed : Contains rows member
@@ -118,6 +121,7 @@ pub record IsEarlyClass (d : ℕ) (rows : List (List ℕ)) (S : ℕ → Type 0) 
   pub near : HasListed rows j c → Agree S row (first_row rows j root)
 
 -- a member that agrees with one of the listed at the first q places of the order
-pub record IsRestricted (T : List ℕ → Type 0) (rows : List (List ℕ)) (ord : List ℕ) (q : ℕ) (t : List ℕ) : Type 0 where
+pub record IsRestricted (T : List ℕ → Type 0) (rows : List (List ℕ)) (ord : List ℕ) (q : ℕ)
+    (t : List ℕ) : Type 0 where
   pub inside : T t
   pub covered : IsCovered rows (InFront ord q) t

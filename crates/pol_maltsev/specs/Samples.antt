@@ -1,11 +1,13 @@
 -- The kept members that are found for the values of a late place, where a set shrinks.
-use Rattle.std.specs.Prelude.{◌≡◌, ◌<◌, ◌≤◌, ℕ, List, [], ◌∷◌, length, slice_index, slice_index_or, slice_set, All}
+use Rattle.std.specs.Prelude.{◌≡◌, ◌<◌, ◌≤◌, ℕ, List, [], ◌∷◌, length, slice_index}
+use Rattle.std.specs.Prelude.{slice_index_or, slice_set, All}
 use Rattle.pol_optable.specs.Operations.{Operation, value_at}
 use Rattle.pol_maltsev.specs.Representations.{IsPreserved}
 use Rattle.pol_maltsev.specs.Orders.{InFront}
 use Rattle.pol_maltsev.specs.Tables.{SameRoot, step}
 use Rattle.pol_maltsev.specs.Restrictions.{IsRestricted, IsMadeEarly, IsMadeLate, AreValues, first_row}
-use Rattle.pol_maltsev.specs.Views.{ClassesView, TableView, InTable, IsSoundTable, AreClasses, no_classes, row_of, root_of, root_in, row_in}
+use Rattle.pol_maltsev.specs.Views.{ClassesView, TableView, InTable, IsSoundTable, AreClasses, no_classes, row_of}
+use Rattle.pol_maltsev.specs.Views.{root_of, root_in, row_in}
 
 -- listed rows, and at how many of the first places a kept member agrees with one of them
 pub record Restriction : Type 0 where

@@ -20,7 +20,8 @@ pub record IsRowAt (v : TableView) (p : ℕ) (row : List ℕ) : Type 0 where
   pub row_is : row ≡ row_in v p value
 
 -- in the natural order of the places, a table that stands for the assignments that meet the first j constraints
-pub record IsTableOfFirst (f : Operation) (lang : LanguageView) (inst : InstanceView) (j : ℕ) (v : TableView) : Type 0 where
+pub record IsTableOfFirst (f : Operation) (lang : LanguageView) (inst : InstanceView) (j : ℕ)
+    (v : TableView) : Type 0 where
   pub sound : IsSoundTable f v
   pub natural : IsNatural v.width v.order
   pub width : v.width ≡ length inst.variables

@@ -21,8 +21,10 @@ pub record StayTogether (d : ℕ) (s : Sides) (a b : ℕ) : Type 0 where
 -- swap, X: what stands at x afterwards
 pub record IsMadeX (f : Operation) (n : ℕ) (s : Sides) (row : ℕ → List ℕ) (root : ℕ → ℕ) : Type 0 where
   pub gone : (a : ℕ) → a < f.domain → root a < f.domain → s.cx a < f.domain
-  pub chosen : (a : ℕ) → a < f.domain → s.cx a < f.domain → IsLeastOf f.domain (StayTogether f.domain s a) (root a)
-  pub moved : (a : ℕ) → a < f.domain → s.cx a < f.domain → row a ≡ step f n s.y s.ry (s.rx a) (slice_index (s.rx (root a)) s.y)
+  pub chosen : (a : ℕ) → a < f.domain → s.cx a < f.domain
+      → IsLeastOf f.domain (StayTogether f.domain s a) (root a)
+  pub moved : (a : ℕ) → a < f.domain → s.cx a < f.domain
+      → row a ≡ step f n s.y s.ry (s.rx a) (slice_index (s.rx (root a)) s.y)
 
 -- the value at y that c leads to where x goes from p to q
 abbrev pub led : Operation → Sides → ℕ → ℕ → ℕ → ℕ
@@ -48,7 +50,8 @@ pub record IsMadeY (f : Operation) (n : ℕ) (s : Sides) (row : ℕ → List ℕ
   pub gone : (c : ℕ) → c < f.domain → root c < f.domain → s.cy c < f.domain
   pub chosen : (c : ℕ) → c < f.domain → s.cy c < f.domain → IsLeastOf f.domain (LeadsTo f s c) (root c)
   pub kept : (c : ℕ) → c < f.domain → s.cy c < f.domain → SameRoot f.domain s.cy (root c) c → row c ≡ s.ry c
-  pub moved : (c : ℕ) → c < f.domain → s.cy c < f.domain → (SameRoot f.domain s.cy (root c) c → ⊥) → IsLed f n s (root c) c (row c)
+  pub moved : (c : ℕ) → c < f.domain → s.cy c < f.domain → (SameRoot f.domain s.cy (root c) c → ⊥)
+      → IsLed f n s (root c) c (row c)
 
 -- the table's sides at positions k and k + 1
 abbrev pub sides : List ℕ → ℕ → (ℕ → ℕ → List ℕ) → (ℕ → ℕ → ℕ) → Sides
@@ -62,12 +65,15 @@ sides ord k row root = record {
 }
 
 -- a table after the swap of positions k and k + 1
-pub record IsSwappedTable (f : Operation) (n k : ℕ) (old new : List ℕ) (row : ℕ → ℕ → List ℕ) (root : ℕ → ℕ → ℕ) (row' : ℕ → ℕ → List ℕ) (root' : ℕ → ℕ → ℕ) : Type 0 where
+pub record IsSwappedTable (f : Operation) (n k : ℕ) (old new : List ℕ) (row : ℕ → ℕ → List ℕ)
+    (root : ℕ → ℕ → ℕ) (row' : ℕ → ℕ → List ℕ) (root' : ℕ → ℕ → ℕ) : Type 0 where
   pub order : IsSwapped k old new
   pub at_x : IsMadeX f n (sides old k row root) (row' (slice_index old k)) (root' (slice_index old k))
   pub at_y : IsMadeY f n (sides old k row root) (row' (slice_index old (k + 1))) (root' (slice_index old (k + 1)))
-  pub same_rows : (p a : ℕ) → p < n → a < f.domain → p ≢ slice_index old k → p ≢ slice_index old (k + 1) → row' p a ≡ row p a
-  pub same_roots : (p a : ℕ) → p < n → a < f.domain → p ≢ slice_index old k → p ≢ slice_index old (k + 1) → root' p a ≡ root p a
+  pub same_rows : (p a : ℕ) → p < n → a < f.domain → p ≢ slice_index old k
+      → p ≢ slice_index old (k + 1) → row' p a ≡ row p a
+  pub same_roots : (p a : ℕ) → p < n → a < f.domain → p ≢ slice_index old k
+      → p ≢ slice_index old (k + 1) → root' p a ≡ root p a
 
 -- what stands at x afterwards for the value a
 pub record IsLateAt (f : Operation) (n : ℕ) (s : Sides) (a : ℕ) (row : List ℕ) (root : ℕ) : Type 0 where

@@ -1,5 +1,6 @@
 -- Tables with one row and one class for each value at each place, for an order of the places.
-use Rattle.std.specs.Prelude.{◌≡◌, ◌<◌, ◌≤◌, ◌==◌, ◌⊎◌, cond, ℕ, List, [], ◌∷◌, slice_index, All, Contains}
+use Rattle.std.specs.Prelude.{◌≡◌, ◌<◌, ◌≤◌, ◌==◌, ◌⊎◌, cond, ℕ, List, [], ◌∷◌}
+use Rattle.std.specs.Prelude.{slice_index, All, Contains}
 use Rattle.pol_optable.specs.Operations.{Operation, image}
 use Rattle.pol_maltsev.specs.Orders.{InFront, IsOrder}
 
@@ -17,7 +18,8 @@ pub record SameRoot (d : ℕ) (root : ℕ → ℕ) (a b : ℕ) : Type 0 where
   pub present : root a < d
 
 -- what the rows and roots of place p say of the set T, where the places of S stand before p
-pub record IsKnown (d : ℕ) (T : List ℕ → Type 0) (S : ℕ → Type 0) (p : ℕ) (row : ℕ → List ℕ) (root : ℕ → ℕ)
+pub record IsKnown (d : ℕ) (T : List ℕ → Type 0) (S : ℕ → Type 0) (p : ℕ) (row : ℕ → List ℕ)
+    (root : ℕ → ℕ)
     : Type 0 where
   pub inside : (a : ℕ) → a < d → root a < d → T (row a)
   pub there : (a : ℕ) → a < d → root a < d → slice_index (row a) p ≡ a
@@ -28,7 +30,8 @@ pub record IsKnown (d : ℕ) (T : List ℕ → Type 0) (S : ℕ → Type 0) (p :
   pub fixed : (a : ℕ) → a < d → root a < d → root (root a) ≡ root a
 
 -- the whole table
-pub record IsTable (n d : ℕ) (T : List ℕ → Type 0) (ord : List ℕ) (row : ℕ → ℕ → List ℕ) (root : ℕ → ℕ → ℕ)
+pub record IsTable (n d : ℕ) (T : List ℕ → Type 0) (ord : List ℕ) (row : ℕ → ℕ → List ℕ)
+    (root : ℕ → ℕ → ℕ)
     : Type 0 where
   pub order : IsOrder n ord
   pub known : (k : ℕ) → k < n
@@ -61,7 +64,8 @@ pub record IsLeastOf (d : ℕ) (P : ℕ → Type 0) (b : ℕ) : Type 0 where
   pub first : (c : ℕ) → c < d → P c → b ≤ c
 
 -- the rows list each row of the table, and only members
-pub record ListsTable (n d : ℕ) (T : List ℕ → Type 0) (row : ℕ → ℕ → List ℕ) (root : ℕ → ℕ → ℕ) (rows : List (List ℕ))
+pub record ListsTable (n d : ℕ) (T : List ℕ → Type 0) (row : ℕ → ℕ → List ℕ)
+    (root : ℕ → ℕ → ℕ) (rows : List (List ℕ))
     : Type 0 where
   pub inside : All T rows
   pub listed : (p a : ℕ) → p < n → a < d → root p a < d → Contains rows (row p a)

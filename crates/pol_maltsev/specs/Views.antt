@@ -1,5 +1,7 @@
 -- How tables are seen, and the set of tuples that one stands for.
-use Rattle.std.specs.Prelude.{◌≡◌, ◌<◌, ◌≤◌, ◌+◌, ◌↔◌, ◌≢◌, ◌++◌, ℕ, List, [], ◌∷◌, length, slice_index, slice_index_or, slice_set, replicate, All, Bool, ◌==◌, ◌&&◌, nat_lt}
+use Rattle.std.specs.Prelude.{◌≡◌, ◌<◌, ◌≤◌, ◌+◌, ◌↔◌, ◌≢◌, ◌++◌, ℕ, List, []}
+use Rattle.std.specs.Prelude.{◌∷◌, length, slice_index}
+use Rattle.std.specs.Prelude.{slice_index_or, slice_set, replicate, All, Bool, ◌==◌, ◌&&◌, nat_lt}
 use Rattle.pol_base.specs.Tuples.{IsDomain, IsTuple}
 use Rattle.pol_optable.specs.Operations.{Operation, image}
 use Rattle.pol_optable.specs.Tables.{IsOpTable}

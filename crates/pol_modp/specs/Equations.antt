@@ -1,5 +1,6 @@
 -- Linear equations modulo p, the values that meet them, and multipliers that show that none do.
-use Rattle.std.specs.Prelude.{◌≡◌, ◌≢◌, ◌⊎◌, ℕ, ◌+◌, ◌*◌, ◌%◌, ◌<◌, List, [], ◌∷◌, length, map, slice_index, All}
+use Rattle.std.specs.Prelude.{◌≡◌, ◌≢◌, ◌⊎◌, ℕ, ◌+◌, ◌*◌, ◌%◌, ◌<◌, List, []}
+use Rattle.std.specs.Prelude.{◌∷◌, length, map, slice_index, All}
 
 -- an equation: the coefficients of the variables, and the right side
 pub record EquationView : Type 0 where

@@ -1,5 +1,7 @@
 -- The equations that rows meet: rows as equations on the numbers of an equation, and their solutions.
-use Rattle.std.specs.Prelude.{◌≡◌, ◌≢◌, ℕ, ◌+◌, ◌-◌, ◌%◌, ◌<◌, ◌≤◌, List, [], ◌∷◌, ◌++◌, length, slice_index, All, Contains}
+use Rattle.std.specs.Prelude.{◌≡◌, ◌≢◌, ℕ, ◌+◌, ◌-◌, ◌%◌, ◌<◌, ◌≤◌, List, []}
+use Rattle.std.specs.Prelude.{◌∷◌, ◌++◌, length, slice_index, All}
+use Rattle.std.specs.Prelude.{Contains}
 use Rattle.pol_modp.specs.Equations.{EquationView, IsEquation}
 use Rattle.pol_modp.specs.Rows.{PivotView, AllVanish, whole}
 
@@ -40,5 +42,6 @@ pub record HasNullAt (p n : ℕ) (basis : List PivotView) (f : ℕ) (equations :
 -- these are the equations of the places below this one that are no pivots
 pub record HasNulls (p n : ℕ) (basis : List PivotView) (count : ℕ) (equations : List EquationView) : Type 0 where
   pub each : All (IsNull p n basis) equations
-  pub all : (f : ℕ) → f < count → All (λ (b : PivotView). b.pivot ≢ f) basis → HasNullAt p n basis f equations
+  pub all : (f : ℕ) → f < count → All (λ (b : PivotView). b.pivot ≢ f) basis
+      → HasNullAt p n basis f equations
   pub few : length equations ≤ count

@@ -1,5 +1,6 @@
 -- Rows of numbers modulo p: the sum with a multiple, the rows of an echelon, and what they stand for.
-use Rattle.std.specs.Prelude.{◌≡◌, ◌↔◌, ℕ, ◌+◌, ◌-◌, ◌*◌, ◌%◌, ◌<◌, List, [], ◌∷◌, ◌++◌, length, map, take}
+use Rattle.std.specs.Prelude.{◌≡◌, ◌↔◌, ℕ, ◌+◌, ◌-◌, ◌*◌, ◌%◌, ◌<◌, List, []}
+use Rattle.std.specs.Prelude.{◌∷◌, ◌++◌, length, map, take}
 use Rattle.std.specs.Prelude.{replicate, slice_index, slice_index_or, All}
 use Rattle.pol_modp.specs.Equations.{EquationView, dot}
 

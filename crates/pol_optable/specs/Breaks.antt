@@ -1,5 +1,7 @@
 -- The rows of a relation of which an operation makes no row.
-use Rattle.std.specs.Prelude.{◌≡◌, ◌<◌, ℕ, ◌+◌, ◌-◌, ◌/◌, List, [], ◌∷◌, ◌++◌, length, take, drop, map, slice_index, slice_index_or, Contains}
+use Rattle.std.specs.Prelude.{◌≡◌, ◌<◌, ℕ, ◌+◌, ◌-◌, ◌/◌, List, [], ◌∷◌, ◌++◌}
+use Rattle.std.specs.Prelude.{length, take, drop, map, slice_index}
+use Rattle.std.specs.Prelude.{slice_index_or, Contains}
 use Rattle.pol_base.specs.Tuples.{IsTuple, IsBefore, cell_of}
 use Rattle.pol_relation.specs.Relations.{RelationView}
 use Rattle.pol_optable.specs.Operations.{Operation, image}
@@ -44,4 +46,5 @@ TellImages f r front front_cells back_cells =
 
 -- these images are tuples of values of the domain
 abbrev pub AreImagesTuples : Operation → RelationView → List ℕ → Type 0
-AreImagesTuples f r front = (last : ℕ) → last < length r.rows → IsTuple r.domain r.arity (image_behind f r front last)
+AreImagesTuples f r front = (last : ℕ) → last < length r.rows
+    → IsTuple r.domain r.arity (image_behind f r front last)

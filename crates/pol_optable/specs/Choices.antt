@@ -1,7 +1,8 @@
 -- The tables of the classes that were found, and the first class that has one.
 use Rattle.std.specs.Prelude.{Option, Some, None, option_map, All, ⊤}
 use Rattle.pol_base.specs.declared.class_name.ClassName.{ClassName}
-use Rattle.pol_base.specs.declared.class_name.ClassName.TheVariants.{Constant, Semilattice, SetFunction, Majority, Nu4, Affine, Maltsev}
+use Rattle.pol_base.specs.declared.class_name.ClassName.TheVariants.{Constant, Semilattice, SetFunction, Majority}
+use Rattle.pol_base.specs.declared.class_name.ClassName.TheVariants.{Nu4, Affine, Maltsev}
 use Rattle.pol_relation.specs.Relations.{LanguageView}
 use Rattle.pol_optable.specs.ClassLines.{Line, ClassLine, IsTableOf, HoldsTable, IsFirstOf, all_classes}
 use Rattle.pol_optable.specs.ClassLines.Line.{Beyond, Sought}

@@ -1,5 +1,7 @@
 -- The identities of the classes of operations.
-use Rattle.std.specs.Prelude.{◌≡◌, ◌≢◌, ℕ, ◌+◌, ◌-◌, ◌%◌, ◌<◌, ◌≤◌, ◌==◌, ◌⊎◌, List, [], ◌∷◌, slice_index, count_by, AllPairs}
+use Rattle.std.specs.Prelude.{◌≡◌, ◌≢◌, ℕ, ◌+◌, ◌-◌, ◌%◌, ◌<◌, ◌≤◌, ◌==◌}
+use Rattle.std.specs.Prelude.{◌⊎◌, List, [], ◌∷◌, slice_index, count_by}
+use Rattle.std.specs.Prelude.{AllPairs}
 use Rattle.pol_base.specs.Tuples.{IsTuple}
 use Rattle.pol_optable.specs.Operations.{Operation, value_at}
 
@@ -10,9 +12,11 @@ pub record IsConstant (f : Operation) : Type 0 where
 -- f(x, x) = x, f(x, y) = f(y, x), f(x, f(y, z)) = f(f(x, y), z)
 pub record IsSemilattice (f : Operation) : Type 0 where
   pub idempotent : (x : ℕ) → x < f.domain → value_at f (x ∷ x ∷ []) ≡ x
-  pub commutative : (x y : ℕ) → x < f.domain → y < f.domain → value_at f (x ∷ y ∷ []) ≡ value_at f (y ∷ x ∷ [])
+  pub commutative : (x y : ℕ) → x < f.domain → y < f.domain
+      → value_at f (x ∷ y ∷ []) ≡ value_at f (y ∷ x ∷ [])
   pub associative : (x y z : ℕ) → x < f.domain → y < f.domain → z < f.domain
-      → value_at f (x ∷ value_at f (y ∷ z ∷ []) ∷ []) ≡ value_at f (value_at f (x ∷ y ∷ []) ∷ z ∷ [])
+      → value_at f (x ∷ value_at f (y ∷ z ∷ []) ∷ [])
+      ≡ value_at f (value_at f (x ∷ y ∷ []) ∷ z ∷ [])
 
 -- f = x wherever all arguments but at most one are x
 pub record IsNearUnanimity (f : Operation) : Type 0 where

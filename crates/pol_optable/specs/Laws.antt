@@ -1,7 +1,10 @@
 -- What a reader of class lines may rely on.
-use Rattle.std.specs.Prelude.{◌≡◌, ◌<◌, ◌↔◌, ℕ, ◌^◌, ◌-◌, length, List, [], ◌∷◌, replicate, slice_index, Option, Some, None, All}
+use Rattle.std.specs.Prelude.{◌≡◌, ◌<◌, ◌↔◌, ℕ, ◌^◌, ◌-◌, length, List, [], ◌∷◌}
+use Rattle.std.specs.Prelude.{replicate, slice_index, Option, Some}
+use Rattle.std.specs.Prelude.{None, All}
 use Rattle.pol_base.specs.declared.class_name.ClassName.{ClassName}
-use Rattle.pol_base.specs.declared.class_name.ClassName.TheVariants.{Constant, Semilattice, SetFunction, Majority, Nu4, Affine, Maltsev}
+use Rattle.pol_base.specs.declared.class_name.ClassName.TheVariants.{Constant, Semilattice, SetFunction, Majority}
+use Rattle.pol_base.specs.declared.class_name.ClassName.TheVariants.{Nu4, Affine, Maltsev}
 use Rattle.pol_relation.specs.Relations.{LanguageView, IsLanguage}
 use Rattle.pol_relation.specs.Weights.{weight_of}
 use Rattle.pol_optable.specs.Operations.{Operation, operation_of, value_at}

@@ -17,7 +17,8 @@ pub record IsBrokenSets (g : SetFunctionView) (r : RelationView) (masks : List �
   pub no_row : ¬ Contains r.rows (map (λ mask. value_of_set g mask) masks)
 
 -- broken sets that begin with the front, the masks behind it; where they are bound these do not come before `from`
-pub record GoesOnBroken (g : SetFunctionView) (r : RelationView) (front : List ℕ) (bound : Bool) (from masks : List ℕ)
+pub record GoesOnBroken (g : SetFunctionView) (r : RelationView) (front : List ℕ) (bound : Bool)
+    (from masks : List ℕ)
     : Type 0 where
   pub broken : IsBrokenSets g r (front ++ masks)
   pub behind : IsTrue bound → ¬ IsBefore masks from

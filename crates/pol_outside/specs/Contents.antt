@@ -12,4 +12,5 @@ TakesAtMost old new n = (bytes : List ℕ) × Consumes old new bytes × (length 
 
 -- the first of the bytes were appended, none or all of them perhaps
 abbrev pub AppendsFront : Option (List ℕ) → Option (List ℕ) → List ℕ → Type 0
-AppendsFront old new bytes = (front : List ℕ) × (rest : List ℕ) × (bytes ≡ front ++ rest) × Appends old new front
+AppendsFront old new bytes = (front : List ℕ) × (rest : List ℕ) × (bytes ≡ front ++ rest)
+    × Appends old new front

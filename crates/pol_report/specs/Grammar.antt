@@ -1,5 +1,7 @@
 -- The grammar of reports: which texts are accepted, as which items, and the first refusal of every other text.
-use Rattle.std.specs.Prelude.{ℕ, zero, suc, ◌+◌, ◌-◌, ◌==◌, true, false, if◌then◌else◌, List, [], ◌∷◌, length, Result, Ok, Err, codes}
+use Rattle.std.specs.Prelude.{ℕ, zero, suc, ◌+◌, ◌-◌, ◌==◌, true, false, if◌then◌else◌, List, []}
+use Rattle.std.specs.Prelude.{◌∷◌, length, Result}
+use Rattle.std.specs.Prelude.{Ok, Err, codes}
 use Rattle.pol_text.specs.Lines.{LineView, lines_of, significant_lines, token_at, number_of}
 use Rattle.pol_text.specs.Reading.{unless, after_number, after_line, begins_with, end_line}
 use Rattle.pol_text.specs.declared.refusal.Refusal.{Refusal}
@@ -18,14 +20,16 @@ use Rattle.pol_report.specs.Openings.{opening_from}
 -- ---- lines; `last` is the number of the line that would come next behind all of them
 
 -- the next line as it is judged
-abbrev pub line_from : {A : Type 0} → ℕ → (List (List ℕ) → Result A Word) → List LineView → Result (A × List LineView) Refusal
+abbrev pub line_from : {A : Type 0} → ℕ → (List (List ℕ) → Result A Word) → List LineView
+    → Result (A × List LineView) Refusal
 line_from last judge [] = Err (record { line = last; word = Ended })
 line_from last judge (l ∷ ls) =
     after_line l (judge l.tokens) (λ x.
     Ok (x, ls))
 
 -- so many lines
-abbrev pub lines_from : {A : Type 0} → ℕ → (List (List ℕ) → Result A Word) → ℕ → List LineView → Result (List A × List LineView) Refusal
+abbrev pub lines_from : {A : Type 0} → ℕ → (List (List ℕ) → Result A Word) → ℕ → List LineView
+    → Result (List A × List LineView) Refusal
 lines_from last judge n ls = counted (line_from last judge) n ls
 
 -- ---- items
@@ -89,6 +93,7 @@ report_from last (l ∷ ls) =
     after_line l (report_header l.tokens) (λ _.
     items_from last most_items most_steps ls)
 
--- the items of the text whose first line has the number, or its first refusal; a text that ends early is refused behind its last line
+-- the items of the text whose first line has the number, or its first refusal; a text that ends
+-- early is refused behind its last line
 unfoldable pub items_of : List ℕ → ℕ → Result (List Item) Refusal
 items_of bytes line = report_from (line + length (lines_of bytes)) (significant_lines line bytes)

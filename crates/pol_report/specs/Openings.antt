@@ -1,5 +1,6 @@
 -- How the first line of an item is read: it is the whole item, or says what the lines behind it have to be.
-use Rattle.std.specs.Prelude.{ℕ, Bool, true, false, ◌&&◌, if◌then◌else◌, List, [], ◌∷◌, Result, Ok, Err, codes}
+use Rattle.std.specs.Prelude.{ℕ, Bool, true, false, ◌&&◌, if◌then◌else◌, List, [], ◌∷◌, Result, Ok}
+use Rattle.std.specs.Prelude.{Err, codes}
 use Rattle.pol_base.specs.declared.class_name.ClassName.{ClassName}
 use Rattle.pol_base.specs.declared.class_name.ClassName.TheVariants.{Nu4, Affine, Maltsev}
 use Rattle.pol_base.specs.Lists.{is_same}
@@ -14,10 +15,12 @@ use Rattle.pol_report.specs.declared.opening.Subject.TheVariants as subject
 use Rattle.pol_report.specs.declared.opening.Answer.{Answer}
 use Rattle.pol_report.specs.declared.opening.Answer.TheVariants as answer
 use Rattle.pol_report.specs.Limits.{most_parts}
-use Rattle.pol_report.specs.Tokens.{after, one, to_end, some_to_end, nothing_left, as_value, as_count, as_name, as_class}
+use Rattle.pol_report.specs.Tokens.{after, one, to_end, some_to_end, nothing_left, as_value, as_count, as_name}
+use Rattle.pol_report.specs.Tokens.{as_class}
 
 -- ---- lines of classes
 
+-- whether it is the class of near-unanimity of arity four, whose line alone may say `beyond`
 abbrev pub is_nu4 : ClassName → Bool
 is_nu4 Nu4 = true
 is_nu4 class = false
@@ -68,6 +71,7 @@ no_from left name tokens =
     after (one as_class tokens) (λ class.
     refutation_from left name class.0 class.1)
 
+-- the token behind the name: one of the three answers
 unfoldable pub as_answer : List ℕ → Result Answer Word
 as_answer t =
     if is_same t (codes "undecided") then Ok answer.Undecided else
@@ -90,6 +94,7 @@ instance_from left tokens =
 
 -- ---- both
 
+-- the first token of an item: what it speaks of
 unfoldable pub as_subject : List ℕ → Result Subject Word
 as_subject t =
     if is_same t (codes "class") then Ok subject.Class else

@@ -59,7 +59,8 @@ no_item name class log =
 -- the constraint of a part, its multiplier, the right side of its equation, and the coefficients
 abbrev pub part_line : PartView → List ℕ
 part_line p =
-    printed_line (codes "part" ∷ decimal p.constraint ∷ decimal p.multiplier ∷ decimal p.right ∷ map decimal p.coefs)
+    printed_line
+    (codes "part" ∷ decimal p.constraint ∷ decimal p.multiplier ∷ decimal p.right ∷ map decimal p.coefs)
 
 -- the item of a No by a combination: how many parts it has, the labels of the values, and the parts
 abbrev pub no_sum_item : List ℕ → CombinationView → List ℕ

@@ -1,8 +1,10 @@
 -- How the tokens of a line are read, one by one from the left: the first that does not fit gives the word.
 -- A reader gives what it read, and what is left behind it.
-use Rattle.std.specs.Prelude.{ℕ, zero, suc, nat_le, Bool, true, false, if◌then◌else◌, List, [], ◌∷◌, Result, Ok, Err}
+use Rattle.std.specs.Prelude.{ℕ, zero, suc, nat_le, Bool, true, false, if◌then◌else◌, List, [], ◌∷◌}
+use Rattle.std.specs.Prelude.{Result, Ok, Err}
 use Rattle.pol_base.specs.declared.class_name.ClassName.{ClassName}
-use Rattle.pol_base.specs.declared.class_name.ClassName.TheVariants.{Constant, Semilattice, SetFunction, Majority, Nu4, Affine, Maltsev}
+use Rattle.pol_base.specs.declared.class_name.ClassName.TheVariants.{Constant, Semilattice, SetFunction, Majority}
+use Rattle.pol_base.specs.declared.class_name.ClassName.TheVariants.{Nu4, Affine, Maltsev}
 use Rattle.pol_base.specs.Lists.{is_same}
 use Rattle.pol_base.specs.Names.{class_word}
 use Rattle.pol_text.specs.Lines.{number_of, is_name}
@@ -18,7 +20,8 @@ after (Err refusal) next = Err refusal
 after (Ok read) next = next read
 
 -- the first token as it is judged
-abbrev pub one : {A : Type 0} → (List ℕ → Result A Word) → List (List ℕ) → Result (A × List (List ℕ)) Word
+abbrev pub one : {A : Type 0} → (List ℕ → Result A Word) → List (List ℕ)
+    → Result (A × List (List ℕ)) Word
 one judge [] = Err BadLine
 one judge (t ∷ ts) = after (judge t) (λ x. Ok (x, ts))
 
@@ -40,7 +43,8 @@ to_end judge (suc most) (t ∷ ts) =
     Ok (x ∷ xs)))
 
 -- at least one
-abbrev pub some_to_end : {A : Type 0} → (List ℕ → Result A Word) → ℕ → List (List ℕ) → Result (List A) Word
+abbrev pub some_to_end : {A : Type 0} → (List ℕ → Result A Word) → ℕ → List (List ℕ)
+    → Result (List A) Word
 some_to_end judge most [] = Err BadLine
 some_to_end judge most (t ∷ ts) = to_end judge most (t ∷ ts)
 
@@ -55,6 +59,7 @@ nothing_left tokens x = unless (is_done tokens) BadLine (Ok x)
 
 -- ---- what one token says
 
+-- a number of at most nine digits
 unfoldable pub as_number : List ℕ → Result ℕ Word
 as_number t =
     after_number (number_of t) BadNumber (λ n.
@@ -74,6 +79,7 @@ as_count most word t =
     unless (nat_le n most) word
     (Ok n))
 
+-- a name
 unfoldable pub as_name : List ℕ → Result (List ℕ) Word
 as_name t = unless (is_name t) BadName (Ok t)
 
@@ -86,13 +92,15 @@ abbrev pub class_among : List ClassName → List ℕ → Result ClassName Word
 class_among [] t = Err BadLine
 class_among (class ∷ classes) t = if is_same t (class_word class) then Ok class else class_among classes t
 
+-- the word of a class
 unfoldable pub as_class : List ℕ → Result ClassName Word
 as_class t = class_among (Constant ∷ Semilattice ∷ SetFunction ∷ Majority ∷ Nu4 ∷ Affine ∷ Maltsev ∷ []) t
 
 -- ---- lists behind their number
 
 -- a number that is at most so great, and as many behind it
-abbrev pub listed : {A : Type 0} → ℕ → (List (List ℕ) → Result (A × List (List ℕ)) Word) → List (List ℕ) → Result (List A × List (List ℕ)) Word
+abbrev pub listed : {A : Type 0} → ℕ → (List (List ℕ) → Result (A × List (List ℕ)) Word)
+    → List (List ℕ) → Result (List A × List (List ℕ)) Word
 listed most read tokens =
     after (one (as_count most BadLine) tokens) (λ count.
     counted read count.0 count.1)

@@ -1,5 +1,6 @@
 -- Lists of rows of one width, and the numbers of rows that show a triple of their signature.
-use Rattle.std.specs.Prelude.{◌≡◌, ℕ, ◌<◌, ◌≤◌, ◌*◌, ◌⊎◌, List, [], length, take, slice_index, slice_index_or, All}
+use Rattle.std.specs.Prelude.{◌≡◌, ℕ, ◌<◌, ◌≤◌, ◌*◌, ◌⊎◌, List, [], length, take}
+use Rattle.std.specs.Prelude.{slice_index, slice_index_or, All}
 use Rattle.pol_base.specs.Tuples.{IsDomain, IsTuple}
 use Rattle.pol_relation.specs.Relations.{tuples_in}
 

@@ -20,7 +20,8 @@ pub record IsOrder (d : ℕ) (rows : List (List ℕ)) (order : List ℕ) : Type 
 pub record IsPlaceFor (d : ℕ) (rows : List (List ℕ)) (numbers row : List ℕ) (place : ℕ) : Type 0 where
   pub within : place ≤ length numbers
   pub before : (k : ℕ) → k < place → cell_of d (row_of rows (slice_index numbers k)) ≤ cell_of d row
-  pub behind : (k : ℕ) → place ≤ k → k < length numbers → cell_of d row ≤ cell_of d (row_of rows (slice_index numbers k))
+  pub behind : (k : ℕ) → place ≤ k → k < length numbers
+      → cell_of d row ≤ cell_of d (row_of rows (slice_index numbers k))
 
 -- rows that stand one behind another, and their order
 pub record AreStored (d n count : ℕ) (values order : List ℕ) : Type 0 where

@@ -1,5 +1,6 @@
 -- Runs of rows that agree before a place, among rows in ascending order.
-use Rattle.std.specs.Prelude.{◌≡◌, ℕ, ◌≤◌, List, length, take, drop, slice_index, Contains, Option, MatchOption}
+use Rattle.std.specs.Prelude.{◌≡◌, ℕ, ◌≤◌, List, length, take, drop, slice_index, Contains, Option}
+use Rattle.std.specs.Prelude.{MatchOption}
 use Rattle.pol_rows.specs.RowLists.{row_of}
 
 -- the number is listed, and its row has the value at the place
@@ -36,4 +37,5 @@ pub record IsRun (rows : List (List ℕ)) (numbers : List ℕ) (i count : ℕ) :
   pub some : 1 ≤ count
   pub within : count ≤ length numbers
   pub agree : (p q : ℕ) → Contains (take count numbers) p → Contains (take count numbers) q → Agree rows i p q
-  pub apart : (p q : ℕ) → Contains (take count numbers) p → Contains (drop count numbers) q → ¬ Agree rows i p q
+  pub apart : (p q : ℕ) → Contains (take count numbers) p → Contains (drop count numbers) q
+      → ¬ Agree rows i p q

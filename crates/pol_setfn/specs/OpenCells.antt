@@ -5,7 +5,8 @@ use Rattle.pol_csp.specs.Problems.{ProblemView}
 -- all values are open to the cell, or it is that of the set of one value, which alone is open
 pub data IsOpen (d : ℕ) (idempotent : Bool) (cell mask : ℕ) : Type 0 where
   all : mask ≡ 2 ^ d - 1 → IsOpen d idempotent cell mask
-  one : (v : ℕ) → IsTrue idempotent → v < d → mask ≡ 2 ^ v → cell ≡ 2 ^ v - 1 → IsOpen d idempotent cell mask
+  one : (v : ℕ) → IsTrue idempotent → v < d → mask ≡ 2 ^ v → cell ≡ 2 ^ v - 1
+      → IsOpen d idempotent cell mask
 
 -- a cell for each nonempty set of values below d, each so open and tied to itself
 pub record AreOpen (d : ℕ) (idempotent : Bool) (p : ProblemView) : Type 0 where

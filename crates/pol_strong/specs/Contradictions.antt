@@ -1,5 +1,6 @@
 -- Nogoods that contain a nogood of a log, and the values that are open beside a nogood.
-use Rattle.std.specs.Prelude.{◌≡◌, ◌≢◌, ◌<◌, ℕ, List, [], ◌∷◌, ◌++◌, length, All, Contains, true, IsBitSet, ◌↔◌}
+use Rattle.std.specs.Prelude.{◌≡◌, ◌≢◌, ◌<◌, ℕ, List, [], ◌∷◌, ◌++◌, length, All}
+use Rattle.std.specs.Prelude.{Contains, true, IsBitSet, ◌↔◌}
 use Rattle.std.specs.List.{range_with_len}
 use Rattle.pol_relation.specs.Relations.{LanguageView, rows_of}
 use Rattle.pol_relation.specs.Instances.{ConstraintView}
@@ -49,7 +50,8 @@ IsIndifferent nogood values =
     → IsContained nogood (given values)
 
 -- the mask has the values of the next variable with which none of the first nogoods is held
-abbrev pub AreOpenNext : (d : ℕ) → List StepView → (count : ℕ) → (values : List ℕ) → (mask : ℕ) → Type 0
+abbrev pub AreOpenNext : (d : ℕ) → List StepView → (count : ℕ) → (values : List ℕ)
+    → (mask : ℕ) → Type 0
 AreOpenNext d log count values mask =
     (value : ℕ)
     → IsBitSet mask value

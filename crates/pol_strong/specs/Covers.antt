@@ -1,5 +1,6 @@
 -- What goes on from a front within the scope of a constraint, and the rows of its relation that are cases.
-use Rattle.std.specs.Prelude.{◌≡◌, ◌==◌, ℕ, ◌+◌, ◌-◌, ◌<◌, ◌≤◌, suc, true, List, [], ◌∷◌, ◌++◌, length}
+use Rattle.std.specs.Prelude.{◌≡◌, ◌==◌, ℕ, ◌+◌, ◌-◌, ◌<◌, ◌≤◌, suc, true, List, []}
+use Rattle.std.specs.Prelude.{◌∷◌, ◌++◌, length}
 use Rattle.std.specs.Prelude.{slice_index, slice_index_or, All, Contains, if◌then◌else◌}
 use Rattle.pol_relation.specs.Relations.{LanguageView, rows_of}
 use Rattle.pol_relation.specs.Instances.{InstanceView, ConstraintView}
@@ -52,7 +53,8 @@ CoversWith lang inst c front x a most log = CoversFrom lang inst c (front ++ val
 abbrev pub CoversBefore : LanguageView → InstanceView → ConstraintView
     → (front : List Pair) → (low x most : ℕ) → List StepView → Type 0
 CoversBefore lang inst c front low x most log =
-    (y a : ℕ) → low ≤ y → y < x → Contains c.scope y → a < lang.domain → CoversWith lang inst c front y a most log
+    (y a : ℕ) → low ≤ y → y < x → Contains c.scope y → a < lang.domain
+    → CoversWith lang inst c front y a most log
 
 -- the same for the first values of a variable
 abbrev pub CoversBelow : LanguageView → InstanceView → ConstraintView

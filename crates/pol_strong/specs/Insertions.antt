@@ -13,4 +13,5 @@ with_pair p (q ∷ rest) = if nat_lt p.variable q.variable then p ∷ q ∷ rest
 -- no step has this pair beside just these
 abbrev pub IsFree : List StepView → List Pair → Pair → Type 0
 IsFree log part p =
-    All (λ s. (i : ℕ) → i < length s.nogood → remove s.nogood i ≡ part → pair_of s.nogood i ≡ p → ⊥) log
+    All (λ s. (i : ℕ) → i < length s.nogood → remove s.nogood i ≡ part → pair_of s.nogood i ≡ p
+    → ⊥) log

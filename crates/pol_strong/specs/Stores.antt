@@ -1,5 +1,6 @@
 -- A log whose steps are found by their nogoods.
-use Rattle.std.specs.Prelude.{◌≡◌, ◌≢◌, ℕ, ◌+◌, ◌-◌, ◌*◌, ◌<◌, ◌≤◌, ◌^◌, List, [], ◌∷◌, ◌++◌, length}
+use Rattle.std.specs.Prelude.{◌≡◌, ◌≢◌, ℕ, ◌+◌, ◌-◌, ◌*◌, ◌<◌, ◌≤◌, ◌^◌, List}
+use Rattle.std.specs.Prelude.{[], ◌∷◌, ◌++◌, length}
 use Rattle.std.specs.Prelude.{slice_index, slice_index_or, All, IsBitSet}
 use Rattle.std.specs.List.{remove}
 use Rattle.pol_base.specs.Tuples.{IsDomain}
@@ -42,7 +43,8 @@ abbrev pub IsCleared : (n d : ℕ) → List ℕ → List Pair → Type 0
 IsCleared n d filter nogood =
     (i : ℕ)
     → i < length nogood
-    → IsBitSet (slice_index filter (mask_place n d (remove nogood i) (pair_of nogood i).variable)) (pair_of nogood i).value
+    → IsBitSet (slice_index filter (mask_place n d (remove nogood i) (pair_of nogood i).variable))
+    (pair_of nogood i).value
     → ⊥
 
 -- so it is for the nogood of each step

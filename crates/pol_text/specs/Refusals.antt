@@ -1,7 +1,13 @@
 -- Refusals: a line and a word that says why a text is not accepted.
 use Rattle.std.specs.Prelude.{ℕ, List, codes, ◌++◌, decimal}
 use Rattle.pol_text.specs.declared.word.Word.{Word}
-use Rattle.pol_text.specs.declared.word.Word.TheVariants.{NoHeader, BadVersion, BadDomain, BadLine, BadNumber, BadName, RepeatedName, BadArity, ValueOutside, ShortTuple, LongTuple, TooManyRelations, TooManyTuples, TooManyInstances, TooManyVariables, TooManyConstraints, TripleLimit, SubsetLimit, UnknownRelation, UnknownVariable, Ended, AfterEnd, TooManyItems, TooManySteps, TooManyParts, TooLong}
+use Rattle.pol_text.specs.declared.word.Word.TheVariants.{NoHeader, BadVersion, BadDomain, BadLine, BadNumber}
+use Rattle.pol_text.specs.declared.word.Word.TheVariants.{BadName, RepeatedName, BadArity, ValueOutside, ShortTuple}
+use Rattle.pol_text.specs.declared.word.Word.TheVariants.{LongTuple, TooManyRelations, TooManyTuples}
+use Rattle.pol_text.specs.declared.word.Word.TheVariants.{TooManyInstances, TooManyVariables, TooManyConstraints}
+use Rattle.pol_text.specs.declared.word.Word.TheVariants.{TripleLimit, SubsetLimit, UnknownRelation, UnknownVariable}
+use Rattle.pol_text.specs.declared.word.Word.TheVariants.{Ended, AfterEnd, TooManyItems, TooManySteps, TooManyParts}
+use Rattle.pol_text.specs.declared.word.Word.TheVariants.{TooLong}
 use Rattle.pol_text.specs.declared.refusal.Refusal.{Refusal}
 
 -- the word as it is printed
