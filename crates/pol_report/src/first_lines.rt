@@ -12,8 +12,6 @@ use pol_base::{ClassName, Values};
 use pol_text::{Line, LineFail, Tokens, Word};
 use std::alloc::Global;
 
-// ---- lines of classes
-
 /// Behind `class CLASS`.
 #[tactic(auto, unfolding(crate::specs::Openings::table_from))]
 fn table(alloc: Global, kind: ClassName, mut tokens: Tokens<'_>) -> Result<Opening, LineFail>
@@ -46,8 +44,6 @@ fn class(alloc: Global, mut tokens: Tokens<'_>) -> Result<Opening, LineFail>
     let kind = take_class(&mut tokens)?;
     table(alloc, kind, tokens)
 }
-
-// ---- lines of instances
 
 /// Behind `instance NAME yes`.
 #[tactic(auto, unfolding(crate::specs::Openings::yes_from))]
@@ -167,8 +163,6 @@ fn instance(alloc: Global, left: u32, mut tokens: Tokens<'_>) -> Result<Opening,
     let name = Values::from_slice(alloc, name)?;
     behind_answer(alloc, left, name, answer, tokens)
 }
-
-// ---- both
 
 /// `class` or `instance`.
 #[tactic(auto, unfolding(crate::specs::Openings::as_subject))]

@@ -204,8 +204,6 @@ fn items_and_the_steps_of_all_logs_are_few(rt: HostRuntime) -> Result<(), Fail> 
     Ok(())
 }
 
-// ---- texts
-
 /// The lines of items between the head and the last line.
 fn report(alloc: Global, items: &[u8]) -> Result<Values, NoMemory> {
     let mut text = Values::new(alloc);

@@ -9,8 +9,6 @@ use pol_nogood::Nogood;
 use pol_text::{LineFail, Tokens, Word, is_name, number};
 use std::alloc::Global;
 
-// ---- one token
-
 /// The token that is next.
 pub(crate) fn take<'a>(tokens: &mut Tokens<'a>) -> Result<&'a [u8], LineFail>
     ensures took { Took (λ t. t.now) result tokens.new (one (λ t. Ok t) tokens.old) }
@@ -75,11 +73,13 @@ fn number_in(token: &[u8]) -> Result<u32, LineFail>
 }
 
 /// A number.
+#[tactic(auto, unfolding(crate::specs::Tokens::as_number))]
 pub(crate) fn take_number(tokens: &mut Tokens<'_>) -> Result<u32, LineFail>
     ensures took { Took itself result tokens.new (one as_number tokens.old) }
 {
-    match tokens.next() {
-        Some(token) => number_in(token),
+    match tokens.next_number() {
+        Some(Some(n)) => Ok(n),
+        Some(None) => Err(LineFail::Refused(Word::BadNumber)),
         None => Err(LineFail::Refused(Word::BadLine)),
     }
 }
@@ -97,11 +97,14 @@ fn value_in(token: &[u8]) -> Result<u8, LineFail>
 }
 
 /// A value.
+#[tactic(auto, unfolding(crate::specs::Tokens::as_value))]
 pub(crate) fn take_value(tokens: &mut Tokens<'_>) -> Result<u8, LineFail>
     ensures took { Took itself result tokens.new (one as_value tokens.old) }
 {
-    match tokens.next() {
-        Some(token) => value_in(token),
+    match tokens.next_number() {
+        Some(Some(n)) if n <= u32::from(LARGEST_VALUE) => Ok(n as u8),
+        Some(Some(_)) => Err(LineFail::Refused(Word::ValueOutside)),
+        Some(None) => Err(LineFail::Refused(Word::BadNumber)),
         None => Err(LineFail::Refused(Word::BadLine)),
     }
 }
@@ -112,17 +115,13 @@ pub(crate) fn take_count(tokens: &mut Tokens<'_>, most: u32, word: Word) -> Resu
     ensures took { Took itself result tokens.new (one (as_count most word) tokens.old) }
     ensures few { IfOk result (λ n. n ≤ most) }
 {
-    let Some(token) = tokens.next() else {
-        return Err(LineFail::Refused(Word::BadLine));
-    };
-    match number(token) {
-        Some(n) if n <= most => Ok(n),
-        Some(_) => Err(LineFail::Refused(word)),
-        None => Err(LineFail::Refused(Word::BadNumber)),
+    match tokens.next_number() {
+        Some(Some(n)) if n <= most => Ok(n),
+        Some(Some(_)) => Err(LineFail::Refused(word)),
+        Some(None) => Err(LineFail::Refused(Word::BadNumber)),
+        None => Err(LineFail::Refused(Word::BadLine)),
     }
 }
-
-// ---- lists behind their number
 
 /// A variable and a value.
 fn take_pair(tokens: &mut Tokens<'_>) -> Result<(u32, u8), LineFail>
@@ -172,8 +171,6 @@ pub(crate) fn take_references(alloc: Global, tokens: &mut Tokens<'_>) -> Result<
     let count = take_count(tokens, MOST_REFERENCES as u32, Word::BadLine)?;
     take_numbers(alloc, tokens, count)
 }
-
-// ---- lists up to the end of the line
 
 /// The values, and behind them those of the tokens, at most so many in all.
 fn more_values(mut values: Values, tokens: Tokens<'_>, most: usize) -> Result<Values, LineFail>

@@ -3,3 +3,4 @@ pub mod LinePlaces
 pub mod LineLemmas
 pub mod PrintedLines
 pub mod TextLemmas
+pub mod NumberLemmas

@@ -1,12 +1,11 @@
 -- The lines and tokens of a text, taken one by one from its front.
-use Rattle.std.proofs.Common.{◌≡◌, ℕ, zero, suc, ◌<◌, true, false, eqb, List, [], ◌∷◌, length, get_or, take, drop, arith, refl, ◌≤◌, inl, inr, cond, ◌+◌, ◌≢◌, ◌++◌, ap, Bool, not, one-add, length-drop, ltb, Option, Some, None, unwrap_or, leb, ◌&&◌, ◌-◌, ◌*◌, map}
+use Rattle.std.proofs.Common.{◌≡◌, ℕ, zero, suc, ◌<◌, true, false, eqb, List, [], ◌∷◌, length, get_or, take, drop, arith, refl, ◌≤◌, inl, inr, cond, ◌+◌, ◌≢◌, ◌++◌, ap, Bool, not, one-add, length-drop, ltb, Option, Some, None, unwrap_or, leb, ◌-◌, ◌*◌, map}
 use Rattle.std.proofs.lemmas.Bool.{cases_Bool, eq-eqb, ne_eqb, eqb-true, not-true, ltb-false, le-leb, leb-true, and_parts}
 use Rattle.std.proofs.lemmas.List.Recursion.{is_count_by}
 use Rattle.std.proofs.lemmas.List.{nil_from_length, map_more}
-use Rattle.std.proofs.lemmas.List.Sums.{fails_before_first}
-use Rattle.std.specs.Prelude.{count_by, position}
+use Rattle.std.specs.Prelude.{count_by}
 use Rattle.std.specs.List.{position_or_len, list_all}
-use Rattle.pol_text.specs.Lines.{lines_of, grown, without_last, is_blank, tokens_of, begins_solid, is_digit, is_number, is_letter, is_name_byte, is_name, is_significant}
+use Rattle.pol_text.specs.Lines.{lines_of, grown, without_last, is_blank, tokens_of, begins_solid, is_digit, is_letter, is_name_byte, is_name, is_significant}
 use Rattle.pol_base.specs.Tuples.{cell_of}
 use Rattle.pol_base.proofs.CellLemmas.{cell_of-push}
 
@@ -217,19 +216,7 @@ position_or_len-found test bs r found =
       | inr e ↦ let is : r ≡ None = rw e at found in rw is (omega (arith, ltb-false _ _ e))
     ]
 
--- no byte passes where there is no first one that does
-pub position-None : (test : ℕ → Bool) (bs : List ℕ) → position test bs ≡ None → (k : ℕ) → k < length bs → test (get_or bs k 0) ≡ false
-position-None test bs none k inside =
-    elim (cases_Bool (ltb (position_or_len test bs) (length bs))) [
-      | inl e ↦ let found : Some (position_or_len test bs) ≡ None = rw e at none in absurd (cc)
-      | inr e ↦ fails_before_first test bs k 0 (omega (arith, ltb-false _ _ e))
-    ]
-
 -- ---- numbers and names
-
--- where the length is right, the bytes decide
-pub is_number-digits : (bs : List ℕ) → 0 < length bs → length bs ≤ 9 → is_number bs ≡ list_all is_digit bs
-is_number-digits bs some few = rw (le-leb 1 (length bs) some, le-leb (length bs) 9 few)
 
 -- a digit, taken from 48, is below ten
 pub record IsDigit (b : ℕ) : Type 0 where

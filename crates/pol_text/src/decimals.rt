@@ -1,4 +1,5 @@
-ghost use Rattle.std.specs.Prelude.{◌≡◌, ◌≤◌, ◌++◌, ◌-◌, if◌then◌else◌, Some, None, length, map, codes, decimal, OnOk, OnErr};
+ghost use Rattle.std.specs.Prelude.{◌≡◌, ◌<◌, ◌≤◌, ◌++◌, ◌-◌, false, true, length, take, map, slice_index_or};
+ghost use Rattle.std.specs.Prelude.{codes, decimal, OnOk, OnErr};
 ghost use Rattle.std.specs.List.{list_all};
 ghost use Rattle.pol_base.specs.Tuples.{cell_of};
 ghost use Rattle.pol_text.specs.Lines.{number_of, is_digit};
@@ -14,26 +15,31 @@ const MOST_DIGITS: usize = 9;
 pub fn number(token: &[u8]) -> Option<u32>
     ensures number { result ≡ number_of token.now }
 {
-    if token.is_empty() || MOST_DIGITS < token.len() {
+    let (value, length) = leading_number(token);
+    if length == 0 || length < token.len() {
         return None;
     }
-    value(token)
+    Some(value)
 }
 
-/// The number that the bytes write, where each is a digit.
-fn value(bytes: &[u8]) -> Option<u32>
-    requires few { length bytes.now ≤ 9 }
-    ensures value { result
-        ≡ (if list_all is_digit bytes.now then Some (cell_of 10 (map (λ b. b - 48) bytes.now)) else None) }
+/// The number that the digits at the front write, of which at most nine are taken, and how many these are.
+pub(crate) fn leading_number(bytes: &[u8]) -> (u32, usize)
+    ensures within { (result.1 ≤ 9) × (result.1 ≤ length bytes.now) }
+    ensures digits { list_all is_digit (take result.1 bytes.now) ≡ true }
+    ensures value { result.0 ≡ cell_of 10 (map (λ b. b - 48) (take result.1 bytes.now)) }
+    ensures most { result.1 < 9 → result.1 < length bytes.now
+        → is_digit (slice_index_or bytes.now result.1 0) ≡ false }
 {
     let mut value = 0u32;
+    let mut length = 0;
     for byte in bytes {
-        if !byte.is_ascii_digit() {
-            return None;
+        if length == MOST_DIGITS || !byte.is_ascii_digit() {
+            break;
         }
         value = value * 10 + u32::from(*byte - b'0');
+        length += 1;
     }
-    Some(value)
+    (value, length)
 }
 
 /// Appends the decimal digits of the number. Where memory runs out, a front of them is appended.

@@ -1,10 +1,11 @@
-ghost use Rattle.std.specs.Prelude.{◌≡◌, ℕ, ◌+◌, ◌<◌, ◌≤◌, ◌==◌, ◌^◌, List, ◌∷◌, length, take, drop, count_by, slice_get, option_map, position};
+ghost use Rattle.std.specs.Prelude.{◌≡◌, ℕ, ◌+◌, ◌<◌, ◌≤◌, ◌==◌, ◌^◌, List, ◌∷◌, length, take, drop, count_by, slice_get, option_map};
 ghost use Rattle.std.specs.Iterator.{YieldsFirst, item_count};
 ghost use Rattle.pol_text.specs.Lines.{LineView, lines_of, without_last, line_text, tokens_of, is_significant, significant_among, significant_lines};
 ghost use Rattle.pol_text.specs.Reading.{begins_with};
 
 use crate::Tokens;
 use crate::tokens::blank_length;
+use memchr::memchr;
 use std::marker::Model;
 
 const LF: u8 = b'\n';
@@ -163,17 +164,10 @@ fn line_length(bytes: &[u8]) -> usize
     ensures first { 0 < length bytes.now
         → lines_of bytes.now ≡ take result bytes.now ∷ lines_of (drop result bytes.now) }
 {
-    match line_feed(bytes) {
+    match memchr(LF, bytes) {
         Some(place) => place + 1,
         None => bytes.len(),
     }
-}
-
-/// The place of the first LF.
-fn line_feed(bytes: &[u8]) -> Option<usize>
-    ensures place { result ≡ position (λ b. b == 10) bytes.now }
-{
-    bytes.iter().position(|byte| *byte == LF)
 }
 
 /// The line without its LF, and without one CR at its end.

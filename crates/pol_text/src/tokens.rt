@@ -1,9 +1,10 @@
-ghost use Rattle.std.specs.Prelude.{◌≡◌, ◌≤◌, ◌++◌, ℕ, List, codes, length, not};
+ghost use Rattle.std.specs.Prelude.{◌≡◌, ◌≤◌, ◌++◌, ℕ, List, codes, length, drop, not, option_map, slice_get};
 ghost use Rattle.std.specs.Iterator.{YieldsFirstBy, item_count};
 ghost use Rattle.std.specs.List.{position_or_len};
-ghost use Rattle.pol_text.specs.Lines.{tokens_of, is_blank};
+ghost use Rattle.pol_text.specs.Lines.{tokens_of, is_blank, begins_solid, number_of};
 ghost use Rattle.pol_text.specs.Texts.{Puts};
 
+use crate::decimals::leading_number;
 use pol_base::{NoMemory, Values};
 use std::marker::Model;
 
@@ -25,6 +26,26 @@ impl<'a> Tokens<'a> {
         ensures tokens { result ≡ tokens_of text.now }
     {
         Tokens { rest: text }
+    }
+
+    /// The number that the next token writes, as `number` reads it: `Some(None)` where it writes none, and
+    /// None where no token is left. Reads each digit once.
+    pub fn next_number(&mut self) -> Option<Option<u32>>
+        ensures next { (result ≡ option_map number_of (slice_get self.old 0)) × (self.new ≡ drop 1 self.old) }
+    {
+        let (_, behind) = self.rest.split_at(blank_length(self.rest));
+        if behind.is_empty() {
+            return None;
+        }
+        let (value, length) = leading_number(behind);
+        let (_, rest) = behind.split_at(length);
+        if !begins_solid(rest) {
+            self.rest = rest;
+            return Some(Some(value));
+        }
+        let (_, rest) = behind.split_at(solid_length(behind));
+        self.rest = rest;
+        Some(None)
     }
 }
 
@@ -66,6 +87,16 @@ fn solid_length(text: &[u8]) -> usize
         .unwrap_or(text.len())
 }
 
+/// Whether a byte comes first that is no blank.
+fn begins_solid(text: &[u8]) -> bool
+    ensures solid { result ≡ begins_solid text.now }
+{
+    match text.first() {
+        Some(byte) => !is_blank(*byte),
+        None => false,
+    }
+}
+
 /// A space or a tab.
 fn is_blank(byte: u8) -> bool
     ensures blank { result ≡ is_blank byte }
@@ -79,4 +110,30 @@ pub fn put_token(out: &mut Values, token: &[u8]) -> Result<(), NoMemory>
 {
     out.append(b" ")?;
     out.append(token)
+}
+
+#[cfg(test)]
+mod tests {
+    use super::*;
+
+    const LINE: &[u8] = b" 7\t007  1234567890 12x 999999999 x -1";
+
+    const NUMBERS: [Option<Option<u32>>; 8] = [
+        Some(Some(7)),
+        Some(Some(7)),
+        Some(None),
+        Some(None),
+        Some(Some(999_999_999)),
+        Some(None),
+        Some(None),
+        None,
+    ];
+
+    #[test]
+    fn reads_the_number_of_each_token(rt: HostRuntime) {
+        let mut tokens = Tokens::new(LINE);
+        for number in NUMBERS {
+            assert_eq!(rt; tokens.next_number(), number);
+        }
+    }
 }

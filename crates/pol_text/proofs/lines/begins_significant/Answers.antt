@@ -1,6 +1,5 @@
-use Rattle.std.proofs.Common.{◌≡◌, ◌<◌, refl, sym, ap, ◌∙◌, length, drop, get_or, arith, rules}
+use Rattle.std.proofs.Common.{◌≡◌, ◌<◌, refl, sym, ap, length, drop, get_or, arith, rules}
 use Rattle.std.specs.List.{position_or_len}
-use Rattle.std.proofs.lemmas.Bool.Decides.{nat_tests}
 use Rattle.pol_text.specs.Lines.{is_significant}
 use Rattle.pol_text.proofs.LineLemmas.{is_solid, tokens_of-none, is_significant-behind}
 use Rattle.pol_text.proofs.lines.begins_significant.Goals as goal
