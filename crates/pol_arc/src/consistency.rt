@@ -16,7 +16,8 @@ use std::alloc::Global;
 /// What arc consistency leaves to the variables of an instance.
 #[derive(Debug, Drop)]
 pub enum Consistency {
-    /// The greatest arc-consistent masks, one for each variable, each with some value.
+    /// The greatest arc-consistent masks, one for each variable in their order, each with some value. The bit
+    /// of weight 2^v of a mask stands for the value v.
     Domains(Values),
     /// The log of an instance that has no solution, since some variable has no value left.
     Wiped(Log),

@@ -9,7 +9,9 @@ use pol_lang::File;
 use pol_report::Item;
 use std::alloc::Global;
 
-/// The verdict on the item: whether what it holds is what it says of the file.
+/// The verdict on the item: whether what it holds is what it says of the file. Rejected for the first cause
+/// that applies, in the order of `Cause`; where none does, unchecked if it holds nothing that could be checked,
+/// and else accepted. No table and no solution is sought.
 pub fn check_item(alloc: Global, file: &File, item: &Item) -> Result<Verdict, NoMemory>
     ensures verdict { IfOk result (IsVerdict file.now item.now) }
 {

@@ -340,7 +340,7 @@ ReadFaultsReadFewer =
 abbrev pub StatusTells : Type 0
 StatusTells = (ending : Ended) → IsAnswer ending ↔ (status_of ending ≤ 3)
 
--- the status 0 is that of a report, or of verdicts of which none is rejected
+-- the status 0 is that of a report, of verdicts of which none is rejected, or of a summary
 abbrev pub ZeroIsDone : Type 0
 ZeroIsDone = (ending : Ended) → status_of ending ≡ 0 → ending ≡ ended.Done
 

@@ -8,12 +8,19 @@ use std::io::ErrorKind;
 /// How a run ends.
 #[derive(Clone, Copy, Debug, PartialEq, Eq)]
 pub enum Ended {
+    /// The report, the verdicts of which none is rejected, or the summary was written.
     Done,
+    /// The verdicts were written, and one is rejected.
     Rejected,
+    /// The words are not known; the usage line was written.
     Usage,
+    /// The text is refused; the line that says so was written.
     Refused(Refusal),
+    /// The input could not be read; nothing was written.
     ReadFault,
+    /// The output could not be written; the beginning of what was due may stand there.
     WriteFault,
+    /// Memory ran out; the beginning of what was due may stand there.
     NoMemory,
 }
 

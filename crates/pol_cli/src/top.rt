@@ -31,7 +31,12 @@ const USAGE: &[u8] = b"usage: polyanna report | polyanna check | polyanna gen N\
 /// on the items of the report that stands behind the file, and the last for the summary of the file
 /// that the number makes.
 ///
-/// An input is read to its end before anything is written.
+/// An input is read to its end, or one byte beyond what is accepted, before anything is written. Where the
+/// words are not known the usage line is written and nothing is read.
+///
+/// `ReadFault` and `WriteFault` come only where the count of faults of the source or of the sink rose in this
+/// call, or stands at 2^64 - 1, and `NoMemory` only under known words. What stands written then is a front of
+/// what was due.
 #[tactic(auto, using(crate::proofs::WordLemmas::words_ask, crate::proofs::WordLemmas::input_alone))]
 pub fn run<S: Source, O: Sink>(
     alloc: Global,

@@ -24,8 +24,9 @@ const TRIES: u32 = 60;
 
 const MOST_PLACES: usize = 6;
 
-/// The file that the number makes: eight instances over the language of its kind. Of the first six
-/// every other has hidden values as a solution, and the others have no solution.
+/// The file that the number makes: eight instances over the language of its kind, the number modulo 5. Of the
+/// first six every other has hidden values as a solution, and the others have no solution. An instance has 20
+/// variables at kind 3, and else 40. docs/FORMATS.md has the rules.
 pub fn make(alloc: Global, number: u64) -> Result<File, NoMemory>
     ensures made { IfOk result (λ file. file ≡ made_file number) }
     ensures file { IfOk result IsFile }

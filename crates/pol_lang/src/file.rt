@@ -15,7 +15,8 @@ use pol_relation::{AddFault, Instance, Language, Relation};
 use std::alloc::Global;
 use std::marker::Model;
 
-/// What a text of version 1 holds: a language within the limits, and instances over it.
+/// What a text of version 1 holds: a language within the limits, whose relations have names, and at most
+/// eight instances over it, with names of their own. docs/FORMATS.md has the limits.
 #[derive(Drop)]
 pub struct File {
     language: Language,
@@ -33,6 +34,7 @@ impl Model for File {
 /// Why an instance was not added.
 #[derive(Clone, Copy, Debug, PartialEq, Eq)]
 pub enum FileFault {
+    /// The instance is none that the file can take; `File::add` says which are.
     Unfit,
     NoMemory,
 }
@@ -64,8 +66,8 @@ impl File {
         })
     }
 
-    /// Adds an instance. `Unfit` exactly where it does not fit the language, exceeds a limit, has a name
-    /// or a variable that is no name, has the name of an instance that is there, or the file is full.
+    /// Adds an instance. `Unfit` exactly where it does not fit the language, is not within the limits, has a
+    /// name or a variable that is no name, has the name of an instance that is there, or the file is full.
     /// An instance that is not added is dropped.
     pub fn add(&mut self, inst: Instance) -> Result<(), FileFault>
         ensures ok { OnOk result (self.new ≡ with_instance self.old inst) }
@@ -276,8 +278,8 @@ fn add_relation(language: &mut Language, name: &[u8], relation: Relation) -> Res
     }
 }
 
-/// Where a file ends in its text: the place behind its `end` line, and the number of the line
-/// that begins there.
+/// Where a file ends in its text: the place behind its `end` line, its LF included, and the number of the
+/// line that begins there. A report of the file may begin there.
 #[derive(Clone, Copy, Debug, PartialEq, Eq)]
 pub struct Rest {
     pub place: usize,

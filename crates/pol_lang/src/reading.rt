@@ -88,7 +88,8 @@ fn ended(bytes: &[u8], word: Word) -> ReadFail
     refused(count_lines(bytes) + 1, word)
 }
 
-/// Refuses the text where a significant line stands from the place on. Takes no memory.
+/// Refuses the text with `AfterEnd` exactly where a significant line stands from the place on, at the number
+/// of the first such line. Takes no memory.
 #[tactic(auto, unfolding(crate::specs::Grammar::extra))]
 pub fn nothing_more(bytes: &[u8], rest: Rest) -> Result<(), Refusal>
     requires few { length bytes.now ≤ most_bytes }

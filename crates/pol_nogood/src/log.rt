@@ -10,11 +10,15 @@ use std::marker::Model;
 /// the numbers of earlier steps, one for each case.
 #[derive(Debug, Drop)]
 pub enum Step {
+    /// By the constraint `c`. The cases are the rows of its relation, in ascending order, that read one value
+    /// for each variable of the scope and agree with the nogood.
     ByConstraint {
         c: u32,
         nogood: Nogood,
         refs: Numbers,
     },
+    /// By the variable `v`, which the nogood of a valid step does not name. The cases are the values of the
+    /// domain, in ascending order.
     ByVariable {
         v: u32,
         nogood: Nogood,
@@ -68,7 +72,9 @@ impl Model for Log {
 /// What a solver answers whose No is a log.
 #[derive(Debug, Drop)]
 pub enum LogAnswer {
+    /// A solution: a value for each variable, in their order.
     Yes(Values),
+    /// A log that shows that there is no solution.
     No(Log),
 }
 

@@ -6,6 +6,9 @@ use std::marker::Model;
 const MOST_PAIRS: usize = 3;
 
 /// At most three pairs of a variable and a value, which no solution holds together. Takes 16 bytes.
+///
+/// (The word is that of R. Stallman and G. Sussman, Forward reasoning and dependency-directed backtracking,
+/// Artificial Intelligence 9, 1977.)
 #[derive(Debug, Drop)]
 pub struct Nogood {
     variables: [u32; MOST_PAIRS],
@@ -37,7 +40,8 @@ impl Nogood {
         }
     }
 
-    /// Adds a pair, unless three pairs are there.
+    /// Adds a pair. False exactly where three pairs are there, and then the nogood is as it was. Takes no
+    /// memory.
     pub fn push(&mut self, variable: u32, value: u8) -> bool
         ensures added { IsTrue result ↔ (length self.old < 3) }
         ensures pair { OnTrue result (self.new ≡ self.old ++ record { variable = variable; value = value } ∷ []) }

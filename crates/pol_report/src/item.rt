@@ -10,7 +10,7 @@ pub enum Item {
         kind: ClassName,
         cells: Values,
     },
-    /// No operation of the class preserves the language.
+    /// No table of the class preserves the language.
     ClassNone {
         kind: ClassName,
     },

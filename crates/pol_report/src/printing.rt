@@ -20,7 +20,8 @@ pub fn put_head(out: &mut Values) -> Result<(), NoMemory>
     out.append(b"polyanna-report 1\n")
 }
 
-/// Appends the lines of the item. Where memory runs out, a front of them is appended.
+/// Appends the lines of the item, which has to be `printable`. Where memory runs out, a front of them is
+/// appended.
 pub fn put_item(out: &mut Values, item: &Item) -> Result<(), NoMemory>
     requires printable { IsPrintable item.now }
     ensures puts { Puts result out.old out.new (item_text item.now) }

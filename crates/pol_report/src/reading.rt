@@ -17,7 +17,7 @@ use std::alloc::Global;
 
 /// The items of the report that the text is, whose first line has the number `line`, or its first
 /// refusal: `NoHeader` where there is no significant line and `Ended` where the `end` line is missing,
-/// both at the number of the line that would come next.
+/// both at the number of the line that would come next. docs/FORMATS.md has the table of all words.
 #[tactic(auto, unfolding(crate::specs::Grammar::items_of))]
 pub fn read_items(alloc: Global, bytes: &[u8], line: u32) -> Result<Items, ReadFail>
     requires few { length bytes.now ≤ 2 ^ 28 }

@@ -24,15 +24,21 @@ use pol_setfn::fold;
 use pol_strong::solve_nu;
 use std::alloc::Global;
 
-/// What is answered of an instance: a solution, No with a log or a combination that shows it, or that
-/// nothing is decided. Of the class `maltsev` both a solution and No come with the sizes of the solver's run.
+/// What is answered of an instance. A solution is a value for each variable, in their order.
 #[derive(Debug, Drop)]
 pub enum InstanceAnswer {
+    /// A solution, by a class other than `maltsev`.
     Yes(Values),
+    /// A log that shows that there is no solution.
     NoLog(Log),
+    /// A combination that shows that there is no solution.
     NoSum(Combination),
+    /// A solution by the class `maltsev`, and for each number of constraints from 0 on the size of the signature
+    /// of the assignments that meet so many of the first.
     YesSizes(Values, Numbers),
+    /// There is no solution, by the class `maltsev`; the same sizes.
     NoSizes(Numbers),
+    /// No table of any class was found.
     Undecided,
 }
 

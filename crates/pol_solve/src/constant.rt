@@ -16,6 +16,8 @@ use std::alloc::Global;
 /// Solves an instance over a language that a constant operation preserves: the constant assignment is
 /// a solution, unless a constraint uses an empty relation. Then the log has one step, by the first
 /// such constraint.
+///
+/// (P. Jeavons, D. Cohen and M. Gyssens, Closure properties of constraints, Journal of the ACM 44, 1997.)
 pub fn solve_constant(
     alloc: Global,
     lang: &Language,

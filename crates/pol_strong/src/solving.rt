@@ -16,11 +16,13 @@ use std::alloc::Global;
 
 /// Answers an instance over a language with a near-unanimity operation of three or four arguments: a
 /// solution, or a log which shows that there is none, of nogoods of at most two or three pairs. By strong
-/// consistency (Jeavons, Cohen and Cooper 1998): nogoods are deleted until each that is left has a case of
-/// each constraint and a value of each further variable; what is left then holds a solution, which is
-/// taken value by value. No cell of the operation is looked at; it stands for the promise. Takes memory
-/// for a number for each nogood over the variables, 33 megabytes at 40 variables of 5 values and four
-/// arguments, and for the log.
+/// consistency: nogoods are deleted until each that is left has a case of each constraint and a value of
+/// each further variable; what is left then holds a solution, which is taken value by value. No cell of the
+/// operation is looked at; it stands for the promise. Takes memory for a number for each nogood over the
+/// variables, 33 megabytes at 40 variables of 5 values and four arguments, and for the log.
+///
+/// (P. Jeavons, D. Cohen and M. Cooper, Constraints, consistency and closure, Artificial Intelligence 101,
+/// 1998.)
 pub fn solve_nu<const K: usize>(
     alloc: Global,
     lang: &Language,

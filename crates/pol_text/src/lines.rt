@@ -58,14 +58,15 @@ impl<'a> Line<'a> {
         Tokens::new(self.text)
     }
 
-    /// How many tokens there are.
+    /// How many tokens there are. Goes over the whole line.
     pub fn count(&self) -> usize
         ensures tokens { result ≡ length self.now.tokens }
     {
         self.tokens().count()
     }
 
-    /// The token at place `i`, counted from 0. None where there are no more than `i` tokens.
+    /// The token at place `i`, counted from 0. None where there are no more than `i` tokens. Goes over the line
+    /// up to it.
     pub fn token(&self, i: usize) -> Option<&'a [u8]>
         ensures token { option_map (λ t. t.now) result ≡ slice_get self.now.tokens i }
     {
@@ -99,7 +100,8 @@ impl<'a> Model for Lines<'a> {
     ghost invariant = { λ l. (l.number + length l.rest.now < 2 ^ 32) × (l.place + length l.rest.now < 2 ^ 64) };
 }
 
-/// The significant lines of the text, whose first line has the number `first`.
+/// The significant lines of the text, whose first line has the number `first`: those with a token, of which
+/// the first does not begin with `#`. Takes no memory, and finds each line when it is asked for.
 pub fn significant(bytes: &[u8], first: u32) -> Lines<'_>
     requires room { first + length bytes.now < 2 ^ 32 }
     ensures lines { result ≡ significant_lines first bytes.now }

@@ -15,6 +15,7 @@ pub struct Refusal {
 /// Why a text was not read.
 #[derive(Clone, Copy, Debug, PartialEq, Eq)]
 pub enum ReadFail {
+    /// The first refusal of the text.
     Refused(Refusal),
     NoMemory,
 }
@@ -32,6 +33,7 @@ impl From<NoMemory> for ReadFail {
 /// Why a line was not read.
 #[derive(Clone, Copy, Debug, PartialEq, Eq)]
 pub enum LineFail {
+    /// The first word for which the line is refused.
     Refused(Word),
     NoMemory,
 }

@@ -1,17 +1,21 @@
 ghost use Rattle.std.specs.Prelude.{◌≡◌};
 ghost use Rattle.pol_text.specs.Refusals.{word_text};
 
-/// Why a text is refused.
+/// Why a text is refused. The tables of docs/FORMATS.md say at which line each is told, and what it asks for.
 #[derive(Clone, Copy, Debug, PartialEq, Eq)]
 pub enum Word {
+    /// The first significant line does not begin with the keyword of such a text, or there is none.
     NoHeader,
     BadVersion,
     BadDomain,
+    /// The line may not stand there, or its tokens are not those of such a line.
     BadLine,
     BadNumber,
     BadName,
     RepeatedName,
+    /// A relation may not have this arity, or a constraint has not as many variables as its relation has places.
     BadArity,
+    /// A number is too large for a value.
     ValueOutside,
     ShortTuple,
     LongTuple,
@@ -20,15 +24,20 @@ pub enum Word {
     TooManyInstances,
     TooManyVariables,
     TooManyConstraints,
+    /// The cubes of the numbers of tuples sum to more than their limit.
     TripleLimit,
+    /// The numbers of vectors of nonempty sets of values sum to more than their limit.
     SubsetLimit,
     UnknownRelation,
     UnknownVariable,
+    /// The text ends before its `end` line.
     Ended,
+    /// A significant line stands behind the `end` line.
     AfterEnd,
     TooManyItems,
     TooManySteps,
     TooManyParts,
+    /// The text has too many bytes.
     TooLong,
 }
 
