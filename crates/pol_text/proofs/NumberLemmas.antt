@@ -78,16 +78,43 @@ number_next bs behind rest (suc n) v at some few within digits is rest_is ended 
     let long = length-take (suc n) behind in
     (tokens_of-next bs behind _ rest at some (rw ends refl) (rw ends rest_is), rw is (number_of-digits (take (suc n) behind) (omega arith) (omega arith) digits))
 
--- the first token is longer than the digits, and no number
+-- a token has all digits at its front
+digits_within : (bs : List ℕ) (n : ℕ) → n ≤ length bs → list_all is_digit (take n bs) ≡ true → n ≤ position_or_len is_blank bs
+digits_within bs zero within digits = omega arith
+digits_within [] (suc n) within digits = absurd (omega arith)
+digits_within (b ∷ bs) (suc n) within digits =
+    let parts = and_parts (is_digit b) (list_all is_digit (take n bs)) digits in
+    let rest = digits_within bs n (omega arith) parts.1 in
+    rw (digit_not_blank b parts.0) (omega arith)
+
+many_digits : (bs : List ℕ) (n : ℕ) → n ≤ length bs → list_all is_digit (take n bs) ≡ true → 9 < n
+    → number_of (take (position_or_len is_blank bs) bs) ≡ None
+many_digits bs n within digits many =
+    let reach = digits_within bs n within digits in
+    let inside = position_or_len-le is_blank bs in
+    let long = length-take (position_or_len is_blank bs) bs in
+    number_of-other (take (position_or_len is_blank bs) bs) 9 (omega arith) (omega arith) (λ small. absurd (omega arith))
+
+-- the first token is no number where it has more than nine digits at its front, or goes on behind them
+other_token : (bs : List ℕ) (n : ℕ) → n ≤ length bs → list_all is_digit (take n bs) ≡ true
+    → (n < length bs → is_digit (get_or bs n 0) ≡ false) → (9 < n) ⊎ (begins_solid (drop n bs) ≡ true)
+    → number_of (take (position_or_len is_blank bs) bs) ≡ None
+other_token bs n within digits most (inl many) = many_digits bs n within digits many
+other_token bs n within digits most (inr solid) = elim (cases_lt 9 n) [
+  | inl many ↦ many_digits bs n within digits many
+  | inr few ↦
+      let past = past_digits bs n digits solid in
+      let inside = position_or_len-le is_blank bs in
+      let long = length-take (position_or_len is_blank bs) bs in
+      number_of-other (take (position_or_len is_blank bs) bs) n (omega arith) few
+      (λ small. rw (get_or-take (position_or_len is_blank bs) bs n 0 past) (most (omega arith)))
+]
+
+-- the first token, where that is no number
 pub other_next : (bs behind token rest : List ℕ) (n : ℕ) → behind ≡ drop (position_or_len is_solid bs) bs
-    → 0 < length behind → n ≤ 9 → list_all is_digit (take n behind) ≡ true
-    → (n < 9 → n < length behind → is_digit (get_or behind n 0) ≡ false) → begins_solid (drop n behind) ≡ true
+    → 0 < length behind → n ≤ length behind → list_all is_digit (take n behind) ≡ true
+    → (n < length behind → is_digit (get_or behind n 0) ≡ false) → (9 < n) ⊎ (begins_solid (drop n behind) ≡ true)
     → token ≡ take (position_or_len is_blank behind) behind → rest ≡ drop (position_or_len is_blank behind) behind
     → (tokens_of bs ≡ token ∷ tokens_of rest) × (number_of token ≡ None)
-other_next bs behind token rest n at some few digits most solid token_is rest_is =
-    let past = past_digits behind n digits solid in
-    let within = position_or_len-le is_blank behind in
-    let long = length-take (position_or_len is_blank behind) behind in
-    let other = number_of-other (take (position_or_len is_blank behind) behind) n (omega arith) few
-    (λ small. rw (get_or-take (position_or_len is_blank behind) behind n 0 past) (most small (omega arith))) in
-    (tokens_of-next bs behind token rest at some token_is rest_is, rw token_is other)
+other_next bs behind token rest n at some within digits most other token_is rest_is =
+    (tokens_of-next bs behind token rest at some token_is rest_is, rw token_is (other_token behind n within digits most other))

@@ -8,7 +8,7 @@ ghost use Rattle.pol_text.specs.Texts.{spaced, Puts};
 use itoa::Buffer;
 use pol_base::{NoMemory, Values};
 
-const MOST_DIGITS: usize = 9;
+pub(crate) const MOST_DIGITS: usize = 9;
 
 /// The number that the token writes: 1 to 9 decimal digits, where leading zeros are allowed.
 /// None for every other token.
@@ -16,27 +16,26 @@ pub fn number(token: &[u8]) -> Option<u32>
     ensures number { result ≡ number_of token.now }
 {
     let (value, length) = leading_number(token);
-    if length == 0 || length < token.len() {
+    if length == 0 || length > MOST_DIGITS || length < token.len() {
         return None;
     }
     Some(value)
 }
 
-/// The number that the digits at the front write, of which at most nine are taken, and how many these are.
+/// The number that the digits at the front write, where these are at most nine, and how many they are.
 pub(crate) fn leading_number(bytes: &[u8]) -> (u32, usize)
-    ensures within { (result.1 ≤ 9) × (result.1 ≤ length bytes.now) }
+    ensures within { result.1 ≤ length bytes.now }
     ensures digits { list_all is_digit (take result.1 bytes.now) ≡ true }
-    ensures value { result.0 ≡ cell_of 10 (map (λ b. b - 48) (take result.1 bytes.now)) }
-    ensures most { result.1 < 9 → result.1 < length bytes.now
-        → is_digit (slice_index_or bytes.now result.1 0) ≡ false }
+    ensures value { result.1 ≤ 9 → result.0 ≡ cell_of 10 (map (λ b. b - 48) (take result.1 bytes.now)) }
+    ensures most { result.1 < length bytes.now → is_digit (slice_index_or bytes.now result.1 0) ≡ false }
 {
     let mut value = 0u32;
     let mut length = 0;
     for byte in bytes {
-        if length == MOST_DIGITS || !byte.is_ascii_digit() {
+        if !byte.is_ascii_digit() {
             break;
         }
-        value = value * 10 + u32::from(*byte - b'0');
+        value = value.wrapping_mul(10).wrapping_add(u32::from(*byte - b'0'));
         length += 1;
     }
     (value, length)

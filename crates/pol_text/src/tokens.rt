@@ -4,7 +4,7 @@ ghost use Rattle.std.specs.List.{position_or_len};
 ghost use Rattle.pol_text.specs.Lines.{tokens_of, is_blank, begins_solid, number_of};
 ghost use Rattle.pol_text.specs.Texts.{Puts};
 
-use crate::decimals::leading_number;
+use crate::decimals::{MOST_DIGITS, leading_number};
 use pol_base::{NoMemory, Values};
 use std::marker::Model;
 
@@ -39,7 +39,7 @@ impl<'a> Tokens<'a> {
         }
         let (value, length) = leading_number(behind);
         let (_, rest) = behind.split_at(length);
-        if !begins_solid(rest) {
+        if length <= MOST_DIGITS && !begins_solid(rest) {
             self.rest = rest;
             return Some(Some(value));
         }

@@ -8,8 +8,7 @@ use Rattle.pol_text.proofs.decimals.leading_number.Given as goal
 abbrev pub invariant-loop-byte : goal.invariant-loop-byte
 invariant-loop-byte l = record {
   digits : list_all is_digit (take l.byte-index l.bytes) ≡ true;
-  so_far : l.value ≡ cell_of 10 (map (λ b. b - 48) (take l.byte-index l.bytes));
-  below : l.value < 10 ^ l.byte-index;
+  so_far : l.length ≤ 9 → l.value ≡ cell_of 10 (map (λ b. b - 48) (take l.byte-index l.bytes));
+  below : l.length ≤ 9 → l.value < 10 ^ l.byte-index;
   counted : l.length ≡ l.byte-index;
-  few : l.length ≤ 9;
 }
