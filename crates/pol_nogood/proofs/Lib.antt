@@ -3,6 +3,7 @@ pub mod CaseWalks
 pub mod StepFaults
 pub mod Counting
 pub mod LogCases
+pub mod PlaceLemmas
 pub mod LogExamples
 pub mod FaultLemmas
 pub mod LogLemmas

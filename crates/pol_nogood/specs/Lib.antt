@@ -1,5 +1,6 @@
 pub mod Nogoods
 pub mod Logs
+pub mod FirstPlaces
 pub mod Steps
 pub mod LogFaults
 pub mod ValidLogs

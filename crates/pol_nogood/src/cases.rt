@@ -1,10 +1,13 @@
-ghost use Rattle.std.specs.Prelude.{◌≡◌, ◌==◌, ◌++◌, length};
+ghost use Rattle.std.specs.Prelude.{◌≡◌, ◌≢◌, ◌==◌, ◌++◌, length, AllPairs};
+ghost use Rattle.std.specs.Bool.{OnTrue, OnFalse};
 ghost use Rattle.std.specs.List.{list_any, list_all};
 ghost use Rattle.pol_nogood.specs.LogFaults.{same_pair, contained_in, pairs_placed, ascending_pairs};
 ghost use Rattle.pol_nogood.specs.Nogoods.{Pair};
-ghost use Rattle.pol_nogood.specs.Logs.{compatible, reading, is_case};
+ghost use Rattle.pol_nogood.specs.Logs.{reading, is_case};
+ghost use Rattle.pol_nogood.specs.FirstPlaces.{first_place, AreFirstPlaces, agrees_at, agrees_first};
 
 use crate::Nogood;
+use crate::nogood::MOST_PAIRS;
 
 /// Whether the nogood has a pair of the variable.
 pub fn names(nogood: &Nogood, v: u32) -> bool
@@ -60,20 +63,6 @@ fn has_pair(nogood: &Nogood, variable: u32, value: u8) -> bool
     false
 }
 
-/// Whether the nogood gives the variable no other value.
-fn agrees(nogood: &Nogood, variable: u32, value: u8) -> bool
-    ensures agrees { let p : Pair = record { variable = variable; value = value } in
-        result ≡ list_all (λ q. compatible p q) nogood.now }
-{
-    for i in 0..nogood.len() {
-        let (other, other_value) = nogood.pair(i);
-        if variable == other && value != other_value {
-            return false;
-        }
-    }
-    true
-}
-
 /// Whether the row gives the variable the value at some place of the scope.
 fn reads(scope: &[u32], row: &[u8], variable: u32, value: u8) -> bool
     ensures read { let p : Pair = record { variable = variable; value = value } in
@@ -87,13 +76,54 @@ fn reads(scope: &[u32], row: &[u8], variable: u32, value: u8) -> bool
     false
 }
 
-/// Whether the row gives the variable no other value.
-fn reads_no_other(scope: &[u32], row: &[u8], variable: u32, value: u8) -> bool
-    ensures read { let p : Pair = record { variable = variable; value = value } in
-        result ≡ list_all (λ q. compatible p q) (reading scope.now row.now) }
+/// The first place of the variable in the scope.
+fn first_place(scope: &[u32], x: u32) -> Option<usize>
+    ensures place { result ≡ first_place scope.now x }
 {
-    for (other, other_value) in scope.iter().zip(row) {
-        if variable == *other && value != *other_value {
+    scope.iter().position(|variable| *variable == x)
+}
+
+/// Of each pair of the nogood, the first place of its variable in the scope.
+pub fn first_places(nogood: &Nogood, scope: &[u32]) -> [Option<usize>; MOST_PAIRS]
+    ensures places { AreFirstPlaces scope.now nogood.now result }
+{
+    let mut places = [None; MOST_PAIRS];
+    for i in 0..nogood.len() {
+        let (variable, _) = nogood.pair(i);
+        places[i as usize] = first_place(scope, variable);
+    }
+    places
+}
+
+/// Whether some variable stands at two places of the scope.
+pub fn repeats(scope: &[u32]) -> bool
+    ensures repeated { OnTrue result (¬ AllPairs (λ x y. x ≢ y) scope.now) }
+    ensures distinct { OnFalse result (AllPairs (λ x y. x ≢ y) scope.now) }
+{
+    for place in 0..scope.len() {
+        if scope[..place].contains(&scope[place]) {
+            return true;
+        }
+    }
+    false
+}
+
+/// Whether the row has no other value at the place.
+fn agrees_at(row: &[u8], place: Option<usize>, value: u8) -> bool
+    ensures agrees { result ≡ agrees_at row.now place value }
+{
+    match place {
+        Some(place) => row.len() <= place || row[place] == value,
+        None => true,
+    }
+}
+
+/// Whether the row has at each place the value that it has at the first place of the variable.
+fn reads_one_value(scope: &[u32], row: &[u8]) -> bool
+    ensures read { result ≡ list_all (agrees_first scope.now row.now) (reading scope.now row.now) }
+{
+    for (variable, value) in scope.iter().zip(row) {
+        if !agrees_at(row, first_place(scope, *variable), *value) {
             return false;
         }
     }
@@ -104,12 +134,28 @@ fn reads_no_other(scope: &[u32], row: &[u8], variable: u32, value: u8) -> bool
 pub fn is_case(scope: &[u32], nogood: &Nogood, row: &[u8]) -> bool
     ensures case { result ≡ is_case scope.now nogood.now row.now }
 {
-    for (variable, value) in scope.iter().zip(row) {
-        if !reads_no_other(scope, row, *variable, *value) || !agrees(nogood, *variable, *value) {
+    is_case_at(scope, true, nogood, &first_places(nogood, scope), row)
+}
+
+/// The same, where it is known whether a variable may repeat, and where those of the nogood stand first.
+pub fn is_case_at(
+    scope: &[u32],
+    may_repeat: bool,
+    nogood: &Nogood,
+    places: &[Option<usize>; MOST_PAIRS],
+    row: &[u8],
+) -> bool
+    requires distinct { OnFalse may_repeat (AllPairs (λ x y. x ≢ y) scope.now) }
+    requires places { AreFirstPlaces scope.now nogood.now places.now }
+    ensures case { result ≡ is_case scope.now nogood.now row.now }
+{
+    for i in 0..nogood.len() {
+        let (_, value) = nogood.pair(i);
+        if !agrees_at(row, places[i as usize], value) {
             return false;
         }
     }
-    true
+    !may_repeat || reads_one_value(scope, row)
 }
 
 /// Whether each pair of `some` is one of the nogood, or is read.

@@ -7,7 +7,9 @@ ghost use Rattle.pol_nogood.specs.Steps.{step_named};
 ghost use Rattle.pol_nogood.specs.LogFaults.{covered, is_placed, refer_below, step_fault, ends_empty, log_fault};
 ghost use Rattle.pol_nogood.specs.ValidLogs.{IsValidLog, IsFirstFault};
 
-use crate::cases::{is_ascending, is_case, is_contained, names, pairs_placed};
+use crate::cases::{
+    first_places, is_ascending, is_case_at, is_contained, names, pairs_placed, repeats,
+};
 use crate::{Log, Nogood, Step};
 use pol_relation::{Instance, Language};
 
@@ -149,10 +151,12 @@ fn covered_rows(
 {
     let relation = lang.relation(inst.relation_of(c));
     let scope = inst.scope(c);
+    let may_repeat = repeats(scope);
+    let places = first_places(nogood, scope);
     let mut cases = 0;
     for i in 0..relation.len() {
         let row = relation.row(i);
-        if is_case(scope, nogood, row) {
+        if is_case_at(scope, may_repeat, nogood, &places, row) {
             if !is_covered(log, references, cases, nogood, scope, row) {
                 return None;
             }

@@ -3,7 +3,7 @@ ghost use Rattle.std.specs.Bool.{OnTrue, OnFalse};
 
 use std::marker::Model;
 
-const MOST_PAIRS: usize = 3;
+pub(crate) const MOST_PAIRS: usize = 3;
 
 /// At most three pairs of a variable and a value, which no solution holds together. Takes 16 bytes.
 ///
