@@ -38,7 +38,9 @@ pub struct LogFault {
 
 /// Checks that the log shows that the instance has no solution, whoever made it, and answers its first
 /// fault where it does not. Takes no memory, and goes once over the rows of a constraint's relation for
-/// each step that rests on the constraint.
+/// each step that rests on the constraint. A row is compared at one place for each pair of the step's
+/// nogood, and at each place only where the scope repeats a variable. Each pair of a case's reference is
+/// compared with the pairs of the step's nogood, and only where it is none of these with the row.
 pub fn check_log(lang: &Language, inst: &Instance, log: &Log) -> Result<(), LogFault>
     requires fits { Fits lang.now inst.now }
     ensures valid { IsOk result ↔ IsValidLog lang.now inst.now log.now }
