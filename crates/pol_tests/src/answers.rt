@@ -1,6 +1,6 @@
-ghost use Rattle.std.specs.Prelude.{◌≡◌, ◌≤◌, length};
+ghost use Rattle.std.specs.Prelude.{◌≡◌, ◌≤◌, length, IfOk};
 ghost use Rattle.pol_relation.specs.Instances.{Fits};
-ghost use Rattle.pol_optable.specs.Choices.{AreLines};
+ghost use Rattle.pol_optable.specs.Choices.{AreLines, AreTables};
 
 use crate::harness::lines;
 use crate::sizes::are_sizes;
@@ -9,7 +9,7 @@ use pol_classify::classify;
 use pol_lang::{File, read_file};
 use pol_modp::check_combination;
 use pol_nogood::check_log;
-use pol_optable::Classes;
+use pol_optable::{Classes, Nu4};
 use pol_relation::{Instance, Language};
 use pol_solve::{InstanceAnswer, answer};
 use std::alloc::Global;
@@ -155,6 +155,55 @@ fn instances_of_maltsev_operations(rt: HostRuntime) -> Result<(), Fail> {
         assert_answers(&rt, rt.alloc(), language, ClassName::Maltsev, triples)?;
     }
     Ok(())
+}
+
+const ONE_VALUE: &[u8] =
+    b"polyanna 1|domain 1|relation r 2|tuple 0 0|relation e 1|instance a x y|constraint r y x|constraint r x x|instance b x|constraint r x x|constraint e x|end|";
+
+/// Of each instance whether it has a solution, and its sizes by a Mal'tsev operation.
+const SIZES_OVER_ONE_VALUE: [(bool, [u32; 3]); 2] = [(true, [2, 2, 2]), (false, [1, 1, 0])];
+
+#[test]
+fn sizes_over_one_value(rt: HostRuntime) -> Result<(), Fail> {
+    let file = read(&rt, rt.alloc(), ONE_VALUE)?;
+    let classes = maltsev_alone(rt.alloc(), &file)?;
+    assert!(rt; file.instances() == 2);
+    for i in 0..2 {
+        let inst = file.instance(i);
+        assert!(rt; inst.fits(file.lang()) && inst.constraints() == 2);
+        assert!(rt; inst.variables() == 1 || inst.variables() == 2);
+        let given = answer(rt.alloc(), file.lang(), inst, &classes)?;
+        let (solved, sizes) = SIZES_OVER_ONE_VALUE[i as usize];
+        assert!(rt; has_sizes(&given, solved, &sizes), "at {i}");
+    }
+    Ok(())
+}
+
+/// What is found for the class `maltsev`, and nothing for the others.
+fn maltsev_alone(alloc: Global, file: &File) -> Result<Classes, NoMemory>
+    ensures tables { IfOk result (AreTables file.now.language) }
+{
+    let found = classify(alloc, file.lang())?;
+    Ok(Classes {
+        constant: None,
+        semilattice: None,
+        setfn: None,
+        majority: None,
+        nu4: Nu4::Absent,
+        affine: None,
+        maltsev: found.maltsev,
+    })
+}
+
+/// Whether the answer has these sizes, with the solution of zeros where it is to have one.
+fn has_sizes(given: &InstanceAnswer, solved: bool, due: &[u32]) -> bool {
+    match given {
+        InstanceAnswer::YesSizes(values, sizes) => {
+            solved && sizes.as_slice() == due && values.as_slice().iter().all(|value| *value == 0)
+        }
+        InstanceAnswer::NoSizes(sizes) => !solved && sizes.as_slice() == due,
+        _ => false,
+    }
 }
 
 /// The file that is written with a bar for each LF.
