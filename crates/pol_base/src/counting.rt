@@ -2,8 +2,8 @@ ghost use Rattle.std.specs.Prelude.{◌≡◌, ℕ, ◌+◌, ◌^◌, ◌<◌, l
 ghost use Rattle.std.specs.Bool.{OnTrue, OnFalse};
 ghost use Rattle.pol_base.specs.Tuples.{cell_of};
 
-/// Goes on to the next list of digits below `n`, in lexicographic order. After the last one comes the
-/// first one, and the answer is false.
+/// Goes on to the next list of digits below `n`, in lexicographic order: the first digit is the most
+/// significant. After the last list comes the first one, all zeros, and the answer is false.
 pub fn advance(digits: &mut [u32], n: u32) -> bool
     requires below { All (λ v. v < n) digits.old }
     ensures below { All (λ v. v < n) digits.new }

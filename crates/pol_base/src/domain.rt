@@ -20,6 +20,7 @@ impl Model for Domain {
 }
 
 impl Domain {
+    /// The domain of `n` values. None exactly where `n` is below 1 or above 5.
     pub fn new(n: u32) -> Option<Domain>
         ensures none { IsNone result ↔ ((n < 1) ⊎ (5 < n)) }
         ensures size { IfSome result (λ d. d ≡ n) }
@@ -31,6 +32,7 @@ impl Domain {
         }
     }
 
+    /// How many values there are, from 1 to 5.
     pub fn size(self) -> u8
         ensures size { result ≡ self }
         ensures within { IsDomain self }

@@ -6,7 +6,7 @@ use crate::Domain;
 
 const MOST_CELLS: u32 = 15_625;
 
-/// The number of cells of a table of `k` arguments, where it is at most 15,625.
+/// The number d^`k` of cells of a table of `k` arguments. None exactly where it is above 15,625.
 pub fn cells(d: Domain, k: u32) -> Option<u32>
     ensures none { IsNone result ↔ (15625 < d ^ k) }
     ensures power { IfSome result (λ n. n ≡ d ^ k) }
@@ -25,7 +25,8 @@ pub fn cells(d: Domain, k: u32) -> Option<u32>
     Some(power)
 }
 
-/// The cell of the arguments: the number that they write in base `d`, the first one first.
+/// The cell of the arguments: the number that they write in base d, the first one most significant.
+/// There are to be at most 15,625 cells.
 pub fn cell_of(d: Domain, digits: &[u8]) -> u32
     requires tuple { IsTuple d (length digits.now) digits.now }
     requires few { d ^ length digits.now ≤ 15625 }
@@ -41,7 +42,8 @@ pub fn cell_of(d: Domain, digits: &[u8]) -> u32
     cell
 }
 
-/// The digit of the cell at a place, where the first of the `k` places is 0.
+/// The digit of the cell at a place, in base d. The places are `k`, and place 0 is the most significant.
+/// There are to be at most 15,625 cells.
 pub fn digit(d: Domain, k: u32, cell: u32, place: u32) -> u8
     requires place { place < k }
     requires few { d ^ k ≤ 15625 }
@@ -58,7 +60,8 @@ pub fn digit(d: Domain, k: u32, cell: u32, place: u32) -> u8
     (rest % size) as u8
 }
 
-/// Cells and digits are inverse to each other.
+/// Cells and digits are inverse to each other: the digits of a cell write it, and the cell of a tuple has
+/// the tuple as its digits. The contract is all there is; a call does nothing.
 pub fn inverse_laws()
     ensures digits_write { DigitsWriteTheCell }
     ensures cell_has { CellHasTheDigits }

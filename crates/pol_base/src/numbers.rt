@@ -26,6 +26,7 @@ impl Numbers {
         }
     }
 
+    /// A list of these numbers, copied.
     pub fn from_slice(alloc: Global, items: &[u32]) -> Result<Numbers, NoMemory>
         ensures ok { IfOk result (λ numbers. numbers ≡ items.now) }
     {
@@ -34,6 +35,7 @@ impl Numbers {
         })
     }
 
+    /// Puts the number last. Where no memory is found the list is as it was.
     pub fn push(&mut self, item: u32) -> Result<(), NoMemory>
         ensures ok { OnOk result (self.new ≡ self.old ++ item ∷ []) }
         ensures err { OnErr result (self.new ≡ self.old) }
@@ -42,12 +44,14 @@ impl Numbers {
         Ok(())
     }
 
+    /// The numbers in their order.
     pub fn as_slice(&self) -> &[u32]
         ensures items { result.now ≡ self.now }
     {
         self.items.as_slice()
     }
 
+    /// An equal list, in memory of its own.
     pub fn copy(&self) -> Result<Numbers, NoMemory>
         ensures ok { IfOk result (λ numbers. numbers ≡ self.now) }
     {

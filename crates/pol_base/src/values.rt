@@ -9,8 +9,8 @@ use std::alloc::Global;
 use std::cmp::Ordering;
 use std::marker::Model;
 
-/// A list of small numbers: an assignment, masks, cells, a row, a name or a text.
-/// Lists are compared in lexicographic order.
+/// A list of small numbers: an assignment, masks, cells, a row, a name or a text, a byte for each.
+/// Lists are compared in lexicographic order, the first number first.
 #[derive(Debug, Drop)]
 pub struct Values {
     items: Vec<u8>,
@@ -32,6 +32,7 @@ impl Values {
         }
     }
 
+    /// A list of these numbers, copied.
     pub fn from_slice(alloc: Global, items: &[u8]) -> Result<Values, NoMemory>
         ensures ok { IfOk result (λ values. values ≡ items.now) }
     {
@@ -40,6 +41,7 @@ impl Values {
         })
     }
 
+    /// Puts the number last. Where no memory is found the list is as it was.
     pub fn push(&mut self, item: u8) -> Result<(), NoMemory>
         ensures ok { OnOk result (self.new ≡ self.old ++ item ∷ []) }
         ensures err { OnErr result (self.new ≡ self.old) }
@@ -48,6 +50,7 @@ impl Values {
         Ok(())
     }
 
+    /// Puts the numbers last, in their order. Where no memory is found the list is as it was.
     pub fn append(&mut self, items: &[u8]) -> Result<(), NoMemory>
         ensures ok { OnOk result (self.new ≡ self.old ++ items.now) }
         ensures err { OnErr result (self.new ≡ self.old) }
@@ -56,12 +59,14 @@ impl Values {
         Ok(())
     }
 
+    /// The numbers in their order.
     pub fn as_slice(&self) -> &[u8]
         ensures items { result.now ≡ self.now }
     {
         self.items.as_slice()
     }
 
+    /// An equal list, in memory of its own.
     pub fn copy(&self) -> Result<Values, NoMemory>
         ensures ok { IfOk result (λ values. values ≡ self.now) }
     {

@@ -24,7 +24,7 @@ impl<R> Model for ReaderSource<R> {
 }
 
 impl<R: Read> ReaderSource<R> {
-    /// No error was met yet.
+    /// The source over the reader, without a fault so far.
     pub fn new(reader: R) -> ReaderSource<R>
         ensures made { result ≡ record { stream = reader; faults = 0 } }
     {
@@ -67,14 +67,15 @@ impl<W> Model for WriterSink<W> {
 }
 
 impl<W: Write> WriterSink<W> {
-    /// No error was met yet.
+    /// The sink over the writer, without a fault so far.
     pub fn new(writer: W) -> WriterSink<W>
         ensures made { result ≡ record { stream = writer; faults = 0 } }
     {
         WriterSink { writer, faults: 0 }
     }
 
-    /// Flushes the writer, and answers `Failed` where that fails. Call it once all is written.
+    /// Flushes the writer. Where that fails it answers `Failed` and counts a fault. To be called once all is
+    /// written.
     pub fn finish(&mut self) -> Result<(), Failed>
         ensures cause { HasCause self.old.faults self.new.faults result }
         ensures stream { Keeps (W.contents self.old.stream) (W.contents self.new.stream) }

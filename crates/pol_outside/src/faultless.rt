@@ -23,7 +23,8 @@ impl<'a> Model for CalmSource<'a> {
 }
 
 impl<'a> CalmSource<'a> {
-    /// A read gives at most `chunk` bytes.
+    /// The source of these bytes. A read gives as many as there are and fit, but at most `chunk`, which is to
+    /// be at least 1.
     pub fn new(bytes: &'a [u8], chunk: usize) -> CalmSource<'a>
         requires chunk { 1 ≤ chunk }
         ensures made { result ≡ record { left = bytes.now; chunk = chunk } }
@@ -56,7 +57,7 @@ impl<'a> Source for CalmSource<'a> {
 pub struct QuietSink;
 
 impl QuietSink {
-    /// All such sinks are the same.
+    /// The sink. It has no state, so there is nothing to choose, and one stands for any other.
     pub fn new() -> QuietSink
         ensures made { result ≡ record {} }
     {

@@ -10,7 +10,8 @@ use pol_base::NoMemory;
 use std::alloc::Global;
 use std::marker::Model;
 
-/// A source over bytes in memory, which gives them in pieces and fails at given calls.
+/// A source over bytes in memory, which gives them in pieces and fails at given calls. For tests of what
+/// is done where a read is short or fails.
 #[derive(Debug, Drop)]
 pub struct MemorySource<'a> {
     left: &'a [u8],
@@ -28,7 +29,9 @@ impl<'a> Model for MemorySource<'a> {
 }
 
 impl<'a> MemorySource<'a> {
-    /// A read gives at most `chunk` bytes, and fails where its number, counted from 0, is in `failing`.
+    /// The source of these bytes. A read gives as many as there are and fit, but at most `chunk`, which is to
+    /// be at least 1. It fails, and takes nothing, exactly where its number is in `failing`. Reads are
+    /// numbered from 0, those that fail and those for an empty buffer too.
     pub fn new(bytes: &'a [u8], chunk: usize, failing: &'a [u32]) -> MemorySource<'a>
         requires chunk { 1 ≤ chunk }
         ensures made { result ≡ record { left = bytes.now; chunk = chunk; failing = failing.now; calls = 0 } }
@@ -70,7 +73,8 @@ impl<'a> Source for MemorySource<'a> {
     }
 }
 
-/// A sink in memory, which takes bytes in pieces up to its room and fails at given calls.
+/// A sink in memory, which takes bytes in pieces up to its room and fails at given calls. For tests of
+/// what is done where a write is short or fails.
 #[derive(Debug, Drop)]
 pub struct MemorySink<'a> {
     bytes: Vec<u8>,
@@ -97,8 +101,10 @@ impl<'a> Model for MemorySink<'a> {
 }
 
 impl<'a> MemorySink<'a> {
-    /// A write takes at most `chunk` bytes, and fails where no room is left or where its number, counted
-    /// from 0, is in `failing`. The memory for all the room is taken here, and no write takes any.
+    /// The empty sink with room for `room` bytes. A write takes at most `chunk`, which is to be at least 1. It
+    /// fails exactly where its piece is not empty and no room is left or its number is in `failing`. Writes are
+    /// numbered from 0, those that fail and those of an empty piece too; of an empty piece a write takes 0.
+    /// The memory for all the room is taken here, and no write takes any.
     pub fn new(
         alloc: Global,
         room: usize,
@@ -125,7 +131,7 @@ impl<'a> MemorySink<'a> {
         })
     }
 
-    /// What was written.
+    /// All that was written so far, in its order.
     pub fn bytes(&self) -> &[u8]
         ensures bytes { result.now ≡ self.now.bytes }
     {

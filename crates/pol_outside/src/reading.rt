@@ -7,11 +7,14 @@ use crate::Source;
 use pol_base::{NoMemory, Values};
 use std::alloc::Global;
 
-/// Why not all of a source was taken.
+/// Why `read_all` did not answer what a source has. The bytes that were taken are lost.
 #[derive(Clone, Copy, Debug, PartialEq, Eq)]
 pub enum TakeFault {
+    /// A read failed. At most `limit` bytes were taken before it.
     ReadFault,
+    /// There are more than `limit` bytes; `limit` + 1 of them were taken.
     TooLong,
+    /// No memory was found for the bytes. At most `limit` + 1 of them were taken.
     NoMemory,
 }
 
@@ -28,7 +31,8 @@ impl From<NoMemory> for TakeFault {
 // the most that one read is asked for
 const PIECE: usize = 16_384;
 
-/// Takes all bytes of the source up to its end, if those are at most `limit`.
+/// Takes all bytes of the source up to its end, and answers them where they are at most `limit`, which is to
+/// be at most 2^28. A read that fails ends it, and so does the first byte beyond the limit.
 pub fn read_all<S: Source>(alloc: Global, source: &mut S, limit: u64) -> Result<Values, TakeFault>
     requires limit { limit ≤ 2 ^ 28 }
     ensures bytes { IfOk result (Consumes (S.left source.old) (S.left source.new)) }

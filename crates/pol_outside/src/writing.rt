@@ -5,11 +5,12 @@ ghost use Rattle.pol_outside.specs.Faults.{Rose};
 
 use crate::Sink;
 
-/// A write failed, so a sink holds only a front of what was to be written.
+/// A write failed, so a sink was given only the first bytes of what was to be written, perhaps none.
 #[derive(Clone, Copy, Debug, PartialEq, Eq)]
 pub struct WriteFault;
 
-/// Writes all bytes, in as many writes as the sink wants. Takes no memory.
+/// Writes all bytes in their order, in as many writes as the sink wants, and none where there is no byte.
+/// The first write that fails ends it. Takes no memory of its own.
 pub fn write_all<O: Sink>(sink: &mut O, bytes: &[u8]) -> Result<(), WriteFault>
     ensures ok { OnOk result (Appends (O.written sink.old) (O.written sink.new) bytes.now) }
     ensures front { AppendsFront (O.written sink.old) (O.written sink.new) bytes.now }

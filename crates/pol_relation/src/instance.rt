@@ -23,8 +23,9 @@ impl Model for Constraint {
     ghost view = { λ c. record { relation = c.relation; scope = c.scope.items } };
 }
 
-/// A constraint instance: variables with names of their own, and constraints on them.
-/// Variables and constraints are numbered from 0 in the order in which they were added.
+/// A constraint instance: at most 4,096 variables with names of their own, and at most 4,096 constraints,
+/// each the number of a relation and a scope, the variables of its places. Both are numbered from 0 in the
+/// order in which they were added. (U. Montanari, Networks of constraints, Information Sciences 7, 1974.)
 #[derive(Drop)]
 pub struct Instance {
     name: Values,
@@ -45,7 +46,7 @@ impl Model for Instance {
 }
 
 impl Instance {
-    /// The instance without variables and constraints.
+    /// The instance with this name, without variables and constraints.
     pub fn new(alloc: Global, name: &[u8]) -> Result<Instance, NoMemory>
         ensures ok { IfOk result (λ inst. inst ≡ record { name = name.now; variables = []; constraints = [] }) }
     {
@@ -56,7 +57,8 @@ impl Instance {
         })
     }
 
-    /// Adds a variable with a name that is not there, and answers its number.
+    /// Adds a variable, and answers its number. `Repeated` exactly where a variable has the name, `NoMemory`
+    /// where no memory is found: the instance is then as it was. There are to be fewer than 4,096 variables.
     pub fn add_variable(&mut self, name: &[u8]) -> Result<u32, AddFault>
         requires room { length self.old.variables < 4096 }
         ensures number { IfOk result (λ number. number ≡ length self.old.variables) }
@@ -84,7 +86,9 @@ impl Instance {
         Ok(())
     }
 
-    /// Adds a constraint of the relation with this number on the variables of the scope.
+    /// Adds a constraint of the relation with this number, which is not looked up, on a scope of 1 to 6
+    /// variables of the instance, in which one may repeat. There are to be fewer than 4,096 constraints. Where no
+    /// memory is found the instance is as it was.
     pub fn add_constraint(&mut self, relation: u32, scope: &[u32]) -> Result<(), NoMemory>
         requires some_places { 1 ≤ length scope.now }
         requires few_places { length scope.now ≤ 6 }
@@ -99,13 +103,14 @@ impl Instance {
         Ok(())
     }
 
+    /// The bytes of the name of the instance.
     pub fn name(&self) -> &[u8]
         ensures name { result.now ≡ self.now.name }
     {
         self.name.as_slice()
     }
 
-    /// How many variables there are.
+    /// How many variables there are, at most 4,096.
     pub fn variables(&self) -> u32
         ensures variables { result ≡ length self.now.variables }
         ensures few { result ≤ 4096 }
@@ -114,7 +119,7 @@ impl Instance {
         self.variables.len() as u32
     }
 
-    /// The name of the variable with the number `i`.
+    /// The bytes of the name of the variable with the number `i`.
     pub fn variable(&self, i: u32) -> &[u8]
         requires known { i < length self.now.variables }
         ensures name { result.now ≡ slice_index_or self.now.variables i [] }
@@ -136,7 +141,7 @@ impl Instance {
         Some(place as u32)
     }
 
-    /// How many constraints there are.
+    /// How many constraints there are, at most 4,096.
     pub fn constraints(&self) -> u32
         ensures constraints { result ≡ length self.now.constraints }
         ensures few { result ≤ 4096 }
@@ -145,7 +150,7 @@ impl Instance {
         self.constraints.len() as u32
     }
 
-    /// The number of the relation of constraint `c`.
+    /// The number of the relation of constraint `c`, as it was given.
     pub fn relation_of(&self, c: u32) -> u32
         requires known { c < length self.now.constraints }
         ensures relation { result ≡ (constraint_of self.now c).relation }
@@ -153,7 +158,7 @@ impl Instance {
         self.constraints[c as usize].relation
     }
 
-    /// The variables of the places of constraint `c`.
+    /// The variables of the places of constraint `c`, by their numbers: from 1 to 6, in which one may repeat.
     pub fn scope(&self, c: u32) -> &[u32]
         requires known { c < length self.now.constraints }
         ensures scope { result.now ≡ (constraint_of self.now c).scope }

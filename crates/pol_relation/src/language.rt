@@ -10,8 +10,9 @@ use pol_base::{Domain, NoMemory};
 use std::alloc::Global;
 use std::marker::Model;
 
-/// Relations over one domain, each under a name of its own. They are numbered from 0 in the order
-/// in which they were added.
+/// Relations over one domain, each under a name of its own, at most 4,096. They are numbered from 0 in the
+/// order in which they were added. (P. Jeavons, D. Cohen and M. Gyssens, Closure properties of constraints,
+/// Journal of the ACM 44, 1997.)
 #[derive(Drop)]
 pub struct Language {
     domain: Domain,
@@ -32,10 +33,12 @@ impl Model for Language {
         × (length l.relations.entries ≤ 4096) };
 }
 
-/// Why a relation was not added.
+/// Why a relation was not added to a language, or a variable to an instance; that is then as it was.
 #[derive(Clone, Copy, Debug, PartialEq, Eq)]
 pub enum AddFault {
+    /// The name is that of a relation or a variable that is there already.
     Repeated,
+    /// No memory was found.
     NoMemory,
 }
 
@@ -51,7 +54,7 @@ impl From<NoMemory> for AddFault {
 }
 
 impl Language {
-    /// The language without relations. Takes no memory.
+    /// The language without relations over the domain. Takes no memory.
     pub fn new(alloc: Global, d: Domain) -> Language
         ensures empty { result ≡ record { domain = d; relations = [] } }
     {
@@ -61,8 +64,9 @@ impl Language {
         }
     }
 
-    /// Adds a relation under a name that is not there, and answers its number. A relation that is
-    /// not added is dropped.
+    /// Adds a relation over the domain of the language, and answers its number. `Repeated` exactly where the
+    /// name is there, `NoMemory` where no memory is found: the relation is then dropped, and the language is as
+    /// it was. There are to be fewer than 4,096 relations.
     pub fn add(&mut self, name: &[u8], relation: Relation) -> Result<u32, AddFault>
         requires domain { relation.domain ≡ self.old.domain }
         requires room { length self.old.relations < 4096 }
@@ -92,7 +96,8 @@ impl Language {
         Ok(())
     }
 
-    /// Adds a tuple to the relation that was added last, where it changes nothing if it is a row.
+    /// Adds a tuple of its arity to the relation that was added last; there is to be one. Where the tuple is a
+    /// row of it already, or where no memory is found, the language is as it was.
     pub fn insert(&mut self, tuple: &[u8]) -> Result<(), NoMemory>
         requires some { 0 < length self.old.relations }
         requires tuple { IsTuple (last_of self.old).domain (last_of self.old).arity tuple.now }
@@ -116,7 +121,7 @@ impl Language {
         Some(place as u32)
     }
 
-    /// How many relations there are.
+    /// How many relations there are, at most 4,096.
     pub fn len(&self) -> u32
         ensures relations { result ≡ length self.now.relations }
         ensures few { result ≤ 4096 }
@@ -125,8 +130,8 @@ impl Language {
         self.relations.len() as u32
     }
 
-    /// The sum over the relations of the `k`-th powers of their numbers of rows, or the greatest
-    /// `u64` where the sum is above it. Takes no memory.
+    /// The sum over the relations of the `k`-th powers of their numbers of rows, or the greatest `u64` where
+    /// the sum is above it, for `k` from 1 to 16. Takes no memory.
     pub fn weight(&self, k: u32) -> u64
         requires some { 1 ≤ k }
         requires few { k ≤ 16 }
@@ -162,6 +167,7 @@ impl Language {
         sets.pow(self.relation(i).arity())
     }
 
+    /// The domain that all relations are over.
     pub fn domain(&self) -> Domain
         ensures domain { result ≡ self.now.domain }
         ensures language { IsLanguage self.now }
@@ -169,6 +175,7 @@ impl Language {
         self.domain
     }
 
+    /// The relation with the number `i`, counted from 0.
     pub fn relation(&self, i: u32) -> &Relation
         requires known { i < length self.now.relations }
         ensures relation { result.now ≡ relation_of self.now i }
@@ -177,6 +184,7 @@ impl Language {
         &self.relations[i as usize]
     }
 
+    /// The bytes of the name of the relation with the number `i`, counted from 0.
     pub fn name(&self, i: u32) -> &[u8]
         requires known { i < length self.now.relations }
         ensures name { result.now ≡ name_of self.now i }

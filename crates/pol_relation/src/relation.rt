@@ -6,7 +6,8 @@ use pol_base::{Domain, NoMemory, Values};
 use std::alloc::Global;
 use std::marker::Model;
 
-/// A set of tuples of one length. Its rows stand in ascending order, each once.
+/// A set of tuples of one length, its arity, from 1 to 6, over a domain. Its rows, the tuples that it
+/// holds, stand in ascending lexicographic order, each once, so that one set is one relation.
 #[derive(Debug, Drop)]
 pub struct Relation {
     domain: Domain,
@@ -23,7 +24,7 @@ impl Model for Relation {
 }
 
 impl Relation {
-    /// The relation without rows. Takes no memory.
+    /// The relation without rows, of an arity from 1 to 6. Takes no memory.
     pub fn new(alloc: Global, d: Domain, arity: u32) -> Relation
         requires some_places { 1 ≤ arity }
         requires few_places { arity ≤ 6 }
@@ -38,7 +39,8 @@ impl Relation {
         }
     }
 
-    /// The relation of the tuples that stand one behind another in `rows`. Repeated ones count once.
+    /// The relation of the tuples that stand one behind another in `rows`, in any order, each of `arity`
+    /// values of the domain. The arity is to be from 1 to 6. Repeated tuples count once.
     pub fn from_rows(
         alloc: Global,
         d: Domain,
@@ -69,7 +71,8 @@ impl Relation {
         Ok(relation)
     }
 
-    /// Adds the tuple, which changes nothing where it is a row.
+    /// Adds the tuple, of the arity and over the domain. Where it is a row already, or where no memory is
+    /// found, the relation is as it was.
     pub fn insert(&mut self, tuple: &[u8]) -> Result<(), NoMemory>
         requires tuple { IsTuple self.old.domain self.old.arity tuple.now }
         ensures ok { OnOk result (self.new ≡ with_row_in self.old tuple.now) }
@@ -82,7 +85,7 @@ impl Relation {
         Ok(())
     }
 
-    /// Whether the tuple is a row.
+    /// Whether the tuple, of the arity and over the domain, is a row.
     pub fn has(&self, tuple: &[u8]) -> bool
         requires tuple { IsTuple self.now.domain self.now.arity tuple.now }
         ensures row { IsTrue result ↔ Contains self.now.rows tuple.now }
@@ -90,7 +93,7 @@ impl Relation {
         self.search(tuple).is_ok()
     }
 
-    /// How many rows there are.
+    /// How many rows there are, at most 15,625.
     pub fn len(&self) -> u32
         ensures rows { result ≡ length self.now.rows }
         ensures few { result ≤ 15625 }
@@ -99,12 +102,14 @@ impl Relation {
         self.rows.len() as u32
     }
 
+    /// Whether there is no row.
     pub fn is_empty(&self) -> bool
         ensures empty { IsTrue result ↔ (self.now.rows ≡ []) }
     {
         self.rows.is_empty()
     }
 
+    /// The length of the tuples, from 1 to 6.
     pub fn arity(&self) -> u32
         ensures arity { result ≡ self.now.arity }
         ensures relation { IsRelation self.now }
@@ -112,6 +117,7 @@ impl Relation {
         self.arity
     }
 
+    /// The domain of the values in the tuples.
     pub fn domain(&self) -> Domain
         ensures domain { result ≡ self.now.domain }
         ensures relation { IsRelation self.now }
@@ -119,7 +125,7 @@ impl Relation {
         self.domain
     }
 
-    /// The row with the number `i`, counted from 0 in ascending order.
+    /// The values of the row with the number `i`, counted from 0 in ascending order.
     pub fn row(&self, i: u32) -> &[u8]
         requires known { i < length self.now.rows }
         ensures row { result.now ≡ slice_index_or self.now.rows i [] }
@@ -128,6 +134,7 @@ impl Relation {
         self.rows[i as usize].as_slice()
     }
 
+    /// An equal relation, in memory of its own.
     pub fn copy(&self) -> Result<Relation, NoMemory>
         ensures ok { IfOk result (λ r. r ≡ self.now) }
     {

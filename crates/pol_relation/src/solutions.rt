@@ -6,8 +6,9 @@ use crate::Language;
 use crate::instance::{Instance, MOST_PLACES};
 
 impl Instance {
-    /// Whether the tuple that the assignment reads at the scope of constraint `c` is a row of its
-    /// relation. Takes no memory.
+    /// Whether the tuple that the assignment reads at the scope of constraint `c` is a row of its relation.
+    /// The instance is to fit the language, and the assignment to give a value of the domain to each variable,
+    /// in their order. Takes no memory.
     pub fn meets(&self, lang: &Language, c: u32, assignment: &[u8]) -> bool
         requires fits { Fits lang.now self.now }
         requires known { c < length self.now.constraints }
@@ -23,7 +24,8 @@ impl Instance {
             .has(&tuple[..scope.len()])
     }
 
-    /// Whether the assignment meets every constraint. Takes no memory.
+    /// Whether the assignment meets every constraint. The instance is to fit the language, and the assignment
+    /// to give a value of the domain to each variable, in their order. Takes no memory.
     pub fn is_solution(&self, lang: &Language, assignment: &[u8]) -> bool
         requires fits { Fits lang.now self.now }
         requires assigns { IsTuple lang.now.domain (length self.now.variables) assignment.now }
