@@ -10,14 +10,17 @@ use pol_base::NoMemory;
 use pol_relation::Language;
 use std::alloc::Global;
 
-/// Where the look for constraints that a list breaks goes on: at a row of a relation.
+/// Where the look for constraints that a list breaks goes on. It is a hint: no answer rests on it.
 #[derive(Clone, Copy, Debug, PartialEq, Eq)]
 pub struct Place {
+    /// The number of a relation of the language.
     pub relation: u32,
+    /// A number within that relation, by which the conditions go on, as that of a row.
     pub row: u32,
 }
 
-/// Which lists of values are wanted, told by constraints where a list is at hand that breaks them.
+/// Which lists of values, one for each cell, are wanted, told by constraints where a list is at hand that
+/// breaks them.
 pub trait Conditions {
     /// The lists that are wanted.
     ghost wanted: { Self → LanguageView → List ℕ → Type 0 };
@@ -25,14 +28,15 @@ pub trait Conditions {
     /// The languages and numbers of cells for which it is defined.
     ghost takes: { Self → LanguageView → ℕ → Type 0 };
 
-    /// Whether no list within the masks is wanted, as far as can be told.
+    /// Whether it is known that no list within the masks, one for each cell, is wanted. False tells nothing.
     fn fails(&self, lang: &Language, masks: &[u8]) -> bool
         requires taken { takes self.now lang.now (length masks.now) }
         requires masks { AreMasks lang.now.domain masks.now }
         ensures none { IsTrue result → Rejects (wanted self.now lang.now) masks.now };
 
-    /// Whether the list is wanted. If it is not, constraints may be added that every wanted list meets,
-    /// best some that this one does not. Where the look for them begins is a hint.
+    /// Whether the list, a value of the domain for each cell, is wanted. If it is not, constraints may be put
+    /// into the pool that every wanted list meets, best some that this one does not. The place is a hint
+    /// where the look for them begins, and may be left where it ends.
     fn more(
         &self,
         alloc: Global,

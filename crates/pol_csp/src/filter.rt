@@ -11,8 +11,8 @@ pub trait Filter {
     /// The domains and numbers of cells for which it is defined.
     ghost takes: { Self → ℕ → ℕ → Type 0 };
 
-    /// Whether no list within the masks is wanted, as far as can be told. For masks of one value each
-    /// it is told exactly.
+    /// Whether it is known that no list within the masks, one for each cell, is wanted. True is always right;
+    /// false is so for masks of one value each: their list is then wanted.
     fn fails(&self, d: Domain, masks: &[u8]) -> bool
         requires taken { takes self.now d (length masks.now) }
         requires masks { AreMasks d masks.now }

@@ -24,7 +24,8 @@ impl Model for Constraint {
     ghost view = { λ c. record { relation = c.relation; scope = c.scope.items } };
 }
 
-/// Constraints on cells, numbered from 0 in the order in which they were added.
+/// Constraints on cells, each the number of a relation and the cells of its places, numbered from 0 in the
+/// order in which they were added.
 #[derive(Drop)]
 pub struct Pool {
     constraints: Vec<Constraint>,
@@ -40,7 +41,7 @@ impl Model for Pool {
 }
 
 impl Pool {
-    /// No constraint. Takes no memory.
+    /// The pool without constraints. Takes no memory.
     pub fn new(alloc: Global) -> Pool
         ensures empty { result ≡ [] }
     {
@@ -49,6 +50,8 @@ impl Pool {
         }
     }
 
+    /// Puts a constraint last: the number of its relation, and the cell of each of its places. Neither is
+    /// looked up. Where no memory is found the pool is as it was.
     pub fn add(&mut self, relation: u32, scope: &[u32]) -> Result<(), NoMemory>
         ensures ok { OnOk result (self.new ≡ self.old ++ record { relation = relation; scope = scope.now } ∷ []) }
         ensures err { OnErr result (self.new ≡ self.old) }
@@ -58,13 +61,14 @@ impl Pool {
         Ok(())
     }
 
+    /// How many constraints there are.
     pub fn len(&self) -> usize
         ensures counted { result ≡ length self.now }
     {
         self.constraints.len()
     }
 
-    /// The number of the relation of the constraint.
+    /// The number of the relation of constraint `c`.
     pub fn relation_of(&self, c: usize) -> u32
         requires known { c < length self.now }
         ensures relation { result ≡ (slice_index_or self.now c no_constraint).relation }
@@ -72,6 +76,7 @@ impl Pool {
         self.constraints[c].relation
     }
 
+    /// The cells of the places of constraint `c`.
     pub fn scope(&self, c: usize) -> &[u32]
         requires known { c < length self.now }
         ensures scope { result.now ≡ (slice_index_or self.now c no_constraint).scope }

@@ -10,8 +10,9 @@ use pol_base::{Domain, NoMemory, full_mask};
 use std::alloc::Global;
 use std::marker::Model;
 
-/// A problem over cells that take values of a domain: the values that are open to each cell, cells that
-/// have to be equal, and constraints.
+/// A problem over 1 to 4,096 cells that take values of a domain: a nonempty mask of open values for each
+/// cell, cells that have to be equal, and constraints, at most 2^22, each the number of a relation and the
+/// cells of its places. Cells and constraints are numbered from 0.
 #[derive(Drop)]
 pub struct Problem {
     domain: Domain,
@@ -41,7 +42,7 @@ impl Model for Problem {
 }
 
 impl Problem {
-    /// The problem of so many cells with all values open, without ties and constraints.
+    /// The problem of so many cells, from 1 to 4,096, with all values open, without ties and constraints.
     pub fn new(alloc: Global, d: Domain, cells: u32) -> Result<Problem, NoMemory>
         requires some { 1 ≤ cells }
         requires few { cells ≤ 4096 }
@@ -66,6 +67,7 @@ impl Problem {
         })
     }
 
+    /// The domain of the values.
     pub fn domain(&self) -> Domain
         ensures domain { result ≡ self.now.domain }
         ensures problem { IsProblem self.now }
@@ -73,7 +75,7 @@ impl Problem {
         self.domain
     }
 
-    /// The mask of each cell.
+    /// The nonempty mask of each cell, in their order.
     pub fn masks(&self) -> &[u8]
         ensures masks { result.now ≡ self.now.masks }
         ensures problem { IsProblem self.now }
@@ -81,7 +83,7 @@ impl Problem {
         self.masks.as_slice()
     }
 
-    /// The tie of each cell: a lower cell, or the cell itself.
+    /// The tie of each cell, in their order: a lower cell, or the cell itself where it is not tied.
     pub fn ties(&self) -> &[u32]
         ensures ties { result.now ≡ self.now.ties }
         ensures problem { IsProblem self.now }
@@ -89,7 +91,7 @@ impl Problem {
         self.ties.as_slice()
     }
 
-    /// Replaces the mask of the cell.
+    /// Replaces the mask of the cell by a nonempty one over the domain, which need not lie in the old one.
     pub fn restrict(&mut self, cell: u32, mask: u8)
         requires cell { cell < length self.old.masks }
         requires mask { IsMask self.old.domain mask }
@@ -103,7 +105,7 @@ impl Problem {
         self.masks[cell as usize] = mask;
     }
 
-    /// Ties the cell, which is not tied, to a lower one.
+    /// Ties the cell, which is not tied, to a lower one, which may itself be tied: the two have to be equal.
     pub fn tie(&mut self, cell: u32, to: u32)
         requires cell { cell < length self.old.masks }
         requires lower { to < cell }
@@ -118,7 +120,9 @@ impl Problem {
         self.ties[cell as usize] = to;
     }
 
-    /// Adds a constraint.
+    /// Adds a constraint of the relation with this number, which is not looked up, on 1 to 6 cells, in which
+    /// one may repeat. There are to be fewer than 2^22 before. Where no memory is found the problem is as it
+    /// was.
     pub fn add(&mut self, relation: u32, scope: &[u32]) -> Result<(), NoMemory>
         requires scope { IsScope (length self.old.masks) scope.now }
         requires room { length self.old.constraints < 2 ^ 22 }
@@ -133,7 +137,7 @@ impl Problem {
         self.pool.add(relation, scope)
     }
 
-    /// How many constraints there are.
+    /// How many constraints there are, at most 2^22.
     pub fn constraints(&self) -> u32
         ensures counted { result ≡ length self.now.constraints }
         ensures problem { IsProblem self.now }
@@ -141,7 +145,7 @@ impl Problem {
         self.pool.len() as u32
     }
 
-    /// The number of the relation of the constraint.
+    /// The number of the relation of constraint `c`, as it was given.
     pub fn relation_of(&self, c: u32) -> u32
         requires known { c < length self.now.constraints }
         ensures relation { result ≡ (slice_index_or self.now.constraints c no_constraint).relation }
@@ -149,6 +153,7 @@ impl Problem {
         self.pool.relation_of(c as usize)
     }
 
+    /// The cells of the places of constraint `c`: from 1 to 6, in which one may repeat.
     pub fn scope(&self, c: u32) -> &[u32]
         requires known { c < length self.now.constraints }
         ensures scope { result.now ≡ (slice_index_or self.now.constraints c no_constraint).scope }

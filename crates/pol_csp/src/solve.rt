@@ -13,8 +13,10 @@ use pol_base::{NoMemory, Values};
 use pol_relation::Language;
 use std::alloc::Global;
 
-/// The least list, in order of cells, that is within the masks, equal at tied cells, and wanted. None
-/// exactly where there is none.
+/// The least list, a value for each cell, in lexicographic order, that is within the masks, equal at tied
+/// cells, and wanted. None exactly where there is none. Masks and ties are those of the cells in their order,
+/// at most 4,096; a tie is a lower cell, or the cell itself. Masks are narrowed by constraints of any arity.
+/// (A. K. Mackworth, Consistency in networks of relations, Artificial Intelligence 8, 1977.)
 pub fn least_wanted<C: Conditions>(
     alloc: Global,
     lang: &Language,
@@ -45,8 +47,9 @@ pub fn least_wanted<C: Conditions>(
     Ok(Some(Values::from_slice(alloc, &cells[..ties.len()])?))
 }
 
-/// The least list, in order of cells, that the problem admits and the filter wants. None exactly where
-/// there is none.
+/// The least list, a value for each cell, in lexicographic order, that the problem admits and the filter
+/// wants. None exactly where there is none. The problem is to have the domain of the language, and each of
+/// its constraints a relation of the language and as many cells as the arity of that.
 pub fn least<F: Filter>(
     alloc: Global,
     problem: &Problem,

@@ -14,8 +14,8 @@ use pol_optable::OpTable;
 use std::alloc::Global;
 use std::marker::Model;
 
-/// An affine operation with given labels: the label of f(x, y, z) is that of x, less that of y, plus
-/// that of z, modulo d.
+/// An affine operation with given labels, on a domain of 2, 3 or 5 values: the label of f(x, y, z) is that of
+/// x, less that of y, plus that of z, modulo d. The label of value v stands at place v.
 #[derive(Debug, Drop)]
 pub struct Affine {
     domain: Domain,
@@ -82,8 +82,8 @@ fn affine_cells(d: Domain, labels: &[u8]) -> [u8; 125]
 }
 
 impl Affine {
-    /// The identity of these labels. None exactly where d is not 2, 3 or 5 or the first d labels are not
-    /// 0 to d - 1 in some order.
+    /// The identity of these labels, of which the first d are read. None exactly where d is not 2, 3 or 5, or
+    /// they are not 0 to d - 1 in some order.
     pub fn new(d: Domain, labels: [u8; 5]) -> Option<Affine>
         ensures made { IfSome result (λ a. a ≡ record { domain = d; labels = take d labels }) }
         ensures some { IfSome result (λ a. IsChoice d (take d labels)) }
@@ -104,7 +104,7 @@ impl Affine {
         &self.labels[..usize::from(self.domain.size())]
     }
 
-    /// The one operation that is affine with these labels.
+    /// The one operation that is affine with these labels, of d^3 cells.
     pub fn table(&self, alloc: Global) -> Result<OpTable<3>, NoMemory>
         ensures domain { IfOk result (λ t. t.domain ≡ self.now.domain) }
         ensures table { IfOk result (IsOpTable 3) }

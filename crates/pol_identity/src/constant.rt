@@ -7,7 +7,7 @@ use crate::identity::{CellRule, Identity};
 use pol_base::Domain;
 use pol_optable::OpTable;
 
-/// f(x) = f(y).
+/// f(x) = f(y), of one argument. Cell 0 is free and each other cell holds the same.
 #[derive(Clone, Copy, Debug)]
 pub struct Constant;
 

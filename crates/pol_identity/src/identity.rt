@@ -8,15 +8,19 @@ ghost use Rattle.pol_identity.specs.declared.identity.CellRule.{CellRule};
 use pol_base::Domain;
 use pol_optable::{OpTable, PartTable};
 
-/// What an identity asks of one cell: nothing, a value, or the value of a lower cell.
+/// What an identity asks of one cell of a table.
 #[derive(Clone, Copy, Debug, PartialEq, Eq)]
 pub enum CellRule {
+    /// Nothing.
     Free,
+    /// That it holds this value.
     Value(u8),
+    /// That it holds what this lower cell holds.
     SameAs(u32),
 }
 
-/// An identity of operations of `K` arguments.
+/// An identity of operations of `K` arguments, and what it asks of the cells of their tables. The cells are
+/// numbered as in an `OpTable`, the first argument most significant.
 pub trait Identity<const K: usize> {
     /// The operations that satisfy it.
     ghost satisfies: { Self → Operation → Type 0 };
@@ -27,15 +31,17 @@ pub trait Identity<const K: usize> {
     /// The rule of a cell in a domain.
     ghost rule_of: { Self → ℕ → ℕ → CellRule };
 
-    /// The rule of the cell. An operation that satisfies the identity obeys the rule of each cell.
+    /// The rule of the cell. An operation that satisfies the identity obeys the rule of each cell. The domain
+    /// is to be one that it is defined for, with at most 4,096 cells.
     fn rule(&self, d: Domain, cell: u32) -> CellRule
         requires suited { suits self.now d }
         requires few { d ^ K ≤ 4096 }
         requires known { cell < d ^ K }
         ensures rule { result ≡ rule_of self.now d cell };
 
-    /// Whether no table within the masks satisfies it, as far as can be told. For masks of one value
-    /// each whose table obeys every rule it is told exactly.
+    /// Whether it is known that no table within the masks, one for each cell, satisfies the identity. True is
+    /// always right; false is so only for masks of one value each whose table obeys every rule: the table
+    /// then satisfies it.
     fn fails_in(&self, d: Domain, masks: &[u8]) -> bool
         requires suited { suits self.now d }
         requires part { IsPart d K masks.now }
@@ -45,12 +51,13 @@ pub trait Identity<const K: usize> {
             → masks.now ≡ single_masks cells → ObeysAll cells (rule_of self.now d) → ¬ IsTrue result
             → satisfies self.now (operation_of d K cells) };
 
-    /// Whether the operation satisfies it.
+    /// Whether the operation satisfies the identity, on a domain that this is defined for.
     fn holds(&self, t: &OpTable<K>) -> bool
         requires suited { suits self.now t.now.domain }
         ensures satisfies { IsTrue result ↔ satisfies self.now t.now };
 
-    /// The same of a part as of its masks.
+    /// What `fails_in` answers for the domain and the masks of the part: whether it is known that no table
+    /// within them satisfies the identity.
     final fn fails(&self, part: &PartTable<'_, K>) -> bool
         requires suited { suits self.now part.now.domain }
         ensures none_within { IsTrue result → (cells : List ℕ) → IsWithin part.now.masks cells

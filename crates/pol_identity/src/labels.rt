@@ -87,7 +87,7 @@ fn is_affine_labelling(t: &OpTable<3>, labels: &[u8; 5]) -> bool
     is_choice(d, labels) && is_affine_by(t, labels)
 }
 
-/// The number of lists of a label for each value, each label a number below d.
+/// The number d^d of lists of a label for each value, each label a number below d.
 pub fn label_lists(d: Domain) -> u32
     ensures count { result ≡ d ^ d }
 {
@@ -95,7 +95,8 @@ pub fn label_lists(d: Domain) -> u32
     size.pow(size)
 }
 
-/// The list with a number, in list order: a label for each value, and zeros behind them.
+/// The list with a number below d^d, in lexicographic order: the label of value v at place v, and zeros from
+/// place d on. Not each list is a labelling: labels may repeat.
 pub fn label_list(d: Domain, number: u32) -> [u8; 5]
     requires known { number < d ^ d }
     ensures labels { take d result ≡ digits_of d d number }
@@ -109,8 +110,9 @@ pub fn label_list(d: Domain, number: u32) -> [u8; 5]
     labels
 }
 
-/// The least labelling, in list order with zeros behind place d, that turns the operation into
-/// x - y + z modulo d. None exactly where there is none, as where d is not 2, 3 or 5.
+/// The least labelling, in lexicographic order, that turns the operation into x - y + z modulo d: the label
+/// of value v at place v, and zeros from place d on. None exactly where there is none, as where d is not 2, 3
+/// or 5.
 pub fn affine_labels(t: &OpTable<3>) -> Option<[u8; 5]>
     ensures least { AnswersLeast (IsAffineLabelling t.now) (option_map (λ labels. take t.now.domain labels) result) }
     ensures zeros { IfSome result (λ labels. drop t.now.domain labels ≡ replicate (5 - t.now.domain) 0) }

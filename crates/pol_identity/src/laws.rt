@@ -2,9 +2,9 @@ ghost use Rattle.pol_identity.specs.Laws.{ConstantByRules, NearUnanimityByRules,
 ghost use Rattle.pol_identity.specs.Laws.{SemilatticeByRules, ForcedIsMost};
 ghost use Rattle.pol_identity.specs.Laws.{AffineByRules, AffineByLabels, LabelsTellTheTable, AffineIsMaltsev};
 
-/// A table satisfies an identity exactly where each of its cells obeys its rule, and where it is
-/// associative too, for semilattice operations. Labels tell an affine table, which is one of a Mal'tsev
-/// operation.
+/// A table satisfies an identity exactly where each of its cells obeys its rule, and where it is associative
+/// too, for semilattice operations. Labels tell an affine table, which is one of a Mal'tsev operation. A call
+/// does nothing.
 pub fn identity_laws()
     ensures constant { ConstantByRules }
     ensures near_unanimity { NearUnanimityByRules }

@@ -7,7 +7,8 @@ use crate::identity::{CellRule, Identity};
 use pol_base::{Domain, digit};
 use pol_optable::OpTable;
 
-/// f(x, y, y) = x and f(y, y, x) = x.
+/// f(x, y, y) = x and f(y, y, x) = x. (A. I. Mal'tsev, On the general theory of algebraic systems,
+/// Matematicheskii Sbornik 35, 1954.)
 #[derive(Clone, Copy, Debug)]
 pub struct Maltsev;
 

@@ -10,7 +10,9 @@ use crate::identity::{CellRule, Identity};
 use pol_base::{Domain, digit};
 use pol_optable::OpTable;
 
-/// f = x wherever all arguments but at most one are x.
+/// f = x wherever all arguments but at most one are x, of 3 or more arguments; of 3 it is a majority
+/// operation. (K. Baker and A. Pixley, Polynomial interpolation and the Chinese remainder theorem for
+/// algebraic systems, Mathematische Zeitschrift 143, 1975.)
 #[derive(Clone, Copy, Debug)]
 pub struct NearUnanimity;
 

@@ -9,7 +9,8 @@ use crate::identity::{CellRule, Identity};
 use pol_base::{Domain, cell_of, digit};
 use pol_optable::OpTable;
 
-/// f(x, x) = x, f(x, y) = f(y, x), f(x, f(y, z)) = f(f(x, y), z).
+/// f(x, x) = x, f(x, y) = f(y, x), f(x, f(y, z)) = f(f(x, y), z). The rules ask for the first two. The third
+/// is no rule of single cells, and `fails_in` looks for where it breaks.
 #[derive(Clone, Copy, Debug)]
 pub struct Semilattice;
 

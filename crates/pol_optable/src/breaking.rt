@@ -9,8 +9,9 @@ use pol_base::advance;
 use pol_relation::Relation;
 
 impl<const K: usize> OpTable<K> {
-    /// Whether the operation preserves the relation: whether the image of every list of `K` rows,
-    /// repeats allowed, is a row. Takes no memory.
+    /// Whether the operation preserves the relation, over the same domain: whether the image of every list of
+    /// `K` rows, repeats allowed, is a row. (P. Jeavons, D. Cohen and M. Gyssens, Closure properties of
+    /// constraints, Journal of the ACM 44, 1997.) Takes no memory.
     pub fn preserves(&self, r: &Relation) -> bool
         requires domain { self.now.domain ≡ r.now.domain }
         ensures preserves { IsTrue result ↔ Preserves self.now r.now }
@@ -20,8 +21,9 @@ impl<const K: usize> OpTable<K> {
         self.breaks(r).is_none()
     }
 
-    /// The least list of row numbers of whose rows the image is no row. None exactly where the operation
-    /// preserves the relation. Takes no memory.
+    /// The least list of `K` numbers of rows, repeats allowed, of which the operation makes no row; the
+    /// relation is over the same domain. None exactly where the operation preserves the relation. Takes no
+    /// memory.
     pub fn breaks(&self, r: &Relation) -> Option<[u32; K]>
         requires domain { self.now.domain ≡ r.now.domain }
         ensures least { AnswersLeast (IsBroken self.now r.now) result }
@@ -40,8 +42,9 @@ impl<const K: usize> OpTable<K> {
         self.next_break(&rows, &[0; K], count)
     }
 
-    /// The least list of row numbers from a list on of whose rows the image is no row. None only where
-    /// each such list begins with a row from `end` on. Takes no memory.
+    /// The least list of `K` numbers of rows, from the list `from` of such on, of which the operation makes
+    /// no row; the relation is over the same domain. None only where each such list begins with a row from
+    /// `end` on: the look ends there. Takes no memory.
     pub fn next_break(&self, rows: &RowSet<'_>, from: &[u32; K], end: u32) -> Option<[u32; K]>
         requires domain { self.now.domain ≡ rows.now.domain }
         requires from { IsTuple (length rows.now.rows) K from.now }

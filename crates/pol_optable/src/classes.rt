@@ -15,23 +15,34 @@ pub const CLASSES: [ClassName; 7] = [
     ClassName::Maltsev,
 ];
 
-/// What was found of the class `nu4`: that the language is too large to seek, no table, or the least.
+/// What was found of the class `nu4` for a language.
 #[derive(Debug, Drop)]
 pub enum Nu4 {
+    /// The language is too large to seek: the fourth powers of its numbers of rows sum to more than 2^21.
     Beyond,
+    /// No table was found.
     Absent,
+    /// A table of the class.
     Found(OpTable<4>),
 }
 
-/// The least table of each class for a language, where there is one.
+/// What was found of each class for a language: a table, or none. That the tables are those of their
+/// classes, or the least ones, is for the contracts of the calls that make or take it to say.
 #[derive(Debug, Drop)]
 pub struct Classes {
+    /// f(x) = f(y).
     pub constant: Option<OpTable<1>>,
+    /// f(x, x) = x, f(x, y) = f(y, x) and f(x, f(y, z)) = f(f(x, y), z).
     pub semilattice: Option<OpTable<2>>,
+    /// The set function, of the class `set-function`.
     pub setfn: Option<SetFn>,
+    /// Near-unanimity of three arguments.
     pub majority: Option<OpTable<3>>,
+    /// Near-unanimity of four arguments.
     pub nu4: Nu4,
+    /// x - y + z modulo the size of the domain, under some labels of the values.
     pub affine: Option<OpTable<3>>,
+    /// f(x, y, y) = f(y, y, x) = x.
     pub maltsev: Option<OpTable<3>>,
 }
 
@@ -48,7 +59,7 @@ impl Classes {
         None
     }
 
-    /// Whether a table of the class was found.
+    /// Whether a table of the class was found. Of `nu4`, `Beyond` and `Absent` are none.
     pub fn has_table(&self, class: ClassName) -> bool
         ensures table { IsTrue result ↔ HasTable self.now class }
     {

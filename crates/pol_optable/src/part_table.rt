@@ -6,7 +6,8 @@ use crate::sizes::table_size;
 use pol_base::{Domain, full_mask};
 use std::marker::Model;
 
-/// Tables of `K` arguments whose value in each cell is open within a mask.
+/// Tables of `K` arguments whose value in each cell is open within a nonempty mask. The cells are in the
+/// order of those of an `OpTable`, at most 4,096.
 #[derive(Drop)]
 pub struct PartTable<'a, const K: usize> {
     domain: Domain,
@@ -40,6 +41,7 @@ impl<'a, const K: usize> PartTable<'a, K> {
         Some(PartTable { domain: d, masks })
     }
 
+    /// The domain of the arguments and of the values.
     pub fn domain(&self) -> Domain
         ensures domain { result ≡ self.now.domain }
         ensures part { IsPart self.now.domain K self.now.masks }
@@ -47,7 +49,7 @@ impl<'a, const K: usize> PartTable<'a, K> {
         self.domain
     }
 
-    /// The mask of each cell.
+    /// The d^`K` masks in the order of the cells.
     pub fn masks(&self) -> &[u8]
         ensures masks { result.now ≡ self.now.masks }
         ensures part { IsPart self.now.domain K self.now.masks }
@@ -55,7 +57,7 @@ impl<'a, const K: usize> PartTable<'a, K> {
         self.masks
     }
 
-    /// The mask of a cell.
+    /// The mask of the cell with a number below d^`K`.
     pub fn mask(&self, cell: u32) -> u8
         requires known { cell < self.now.domain ^ K }
         ensures mask { result ≡ slice_index self.now.masks cell }

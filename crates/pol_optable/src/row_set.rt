@@ -8,8 +8,8 @@ use pol_relation::Relation;
 use std::alloc::Global;
 use std::marker::Model;
 
-/// A relation with its rows as a set of cells, so that a tuple is tested at one look, and with the
-/// numbers that the halves of each row write.
+/// A relation with its rows as a set of cells, so that a tuple is tested at one look, and with the numbers
+/// that the two halves of each row write. Seen in contracts as the relation.
 #[derive(Drop)]
 pub struct RowSet<'a> {
     relation: &'a Relation,
@@ -49,6 +49,7 @@ impl<'a> RowSet<'a> {
         }
     }
 
+    /// The relation whose rows these are.
     pub fn relation(&self) -> &Relation
         ensures same { result.now ≡ self.now }
         ensures relation { IsRelation self.now }
@@ -58,7 +59,7 @@ impl<'a> RowSet<'a> {
         self.relation
     }
 
-    /// Whether the tuple that writes the cell is a row.
+    /// Whether the tuple that writes the cell in base d, its first value most significant, is a row.
     pub fn has_cell(&self, cell: u32) -> bool
         requires known { cell < self.now.domain ^ self.now.arity }
         ensures row { IsTrue result ↔ Contains self.now.rows (digits_of self.now.domain self.now.arity cell) }
@@ -89,8 +90,8 @@ impl<'a> RowSet<'a> {
     }
 }
 
-/// A relation with its set of rows, which takes memory for as many marks as there are tuples and for
-/// two numbers a row.
+/// What a `RowSet` reads, made once for a relation: memory for as many marks as there are tuples of its
+/// arity, and for two numbers a row. Seen in contracts as the relation.
 #[derive(Drop)]
 pub struct RowMarks<'a> {
     relation: &'a Relation,

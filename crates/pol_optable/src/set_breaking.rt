@@ -13,8 +13,9 @@ use pol_base::full_mask;
 use pol_relation::Relation;
 
 impl SetFn {
-    /// Whether the set function preserves the relation: whether the image of every nonempty set of rows is
-    /// a row. Takes no memory.
+    /// Whether the set function preserves the relation, over the same domain: whether the image of every
+    /// nonempty set of rows is a row. (V. Dalmau and J. Pearson, Closure functions and width 1 problems, CP
+    /// 1999.) Takes no memory.
     pub fn preserves(&self, r: &Relation) -> bool
         requires domain { self.now.domain ≡ r.now.domain }
         ensures preserves { IsTrue result ↔ PreservesSets self.now r.now }
@@ -39,9 +40,9 @@ impl SetFn {
         self.next_break(&rows, &[0; 6]).is_none()
     }
 
-    /// The least vector of masks, from one on, that is the projection of some nonempty list of rows and of
-    /// which the set function makes no row; places behind the arity are 0. None exactly where there is none
-    /// from that one on. Takes no memory.
+    /// The least vector of masks, one for each place, from the vector `from` on, that is the projection of
+    /// some nonempty list of rows and of which the set function makes no row; behind the arity it has zeros,
+    /// and `from` is not read. None exactly where there is none from that one on. Takes no memory.
     pub fn next_break(&self, rows: &ValueRows<'_>, from: &[u8; 6]) -> Option<[u8; 6]>
         requires domain { self.now.domain ≡ rows.now.domain }
         ensures broken { IfSome result (λ masks. IsBrokenSets self.now rows.now (take rows.now.arity masks)) }

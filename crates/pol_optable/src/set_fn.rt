@@ -7,6 +7,7 @@ use std::alloc::Global;
 use std::marker::Model;
 
 /// A function from the nonempty sets of values to values. The value of mask m stands in cell m - 1.
+/// (V. Dalmau and J. Pearson, Closure functions and width 1 problems, CP 1999.)
 #[derive(Debug, Drop)]
 pub struct SetFn {
     domain: Domain,
@@ -26,8 +27,8 @@ impl Model for SetFn {
 }
 
 impl SetFn {
-    /// The set function with these cells. None exactly where they are those of none: where their number
-    /// is not 2^d - 1, or one is no value of the domain.
+    /// The set function with these values, in the order of the masks from 1 on. None exactly where they are
+    /// those of none: where their number is not 2^d - 1, or one is no value of the domain.
     pub fn from_cells(alloc: Global, d: Domain, cells: &[u8]) -> Result<Option<SetFn>, NoMemory>
         ensures made { IfOk result (λ made. IfSome made (λ g. g ≡ record { domain = d; cells = cells.now })) }
         ensures none { IfOk result (λ made.
@@ -44,6 +45,7 @@ impl SetFn {
         }))
     }
 
+    /// The domain of the members of the sets and of the values.
     pub fn domain(&self) -> Domain
         ensures domain { result ≡ self.now.domain }
         ensures is_domain { IsDomain self.now.domain }
@@ -52,7 +54,7 @@ impl SetFn {
         self.domain
     }
 
-    /// The values in the order of the masks.
+    /// The 2^d - 1 values in the order of the masks, from mask 1 on.
     pub fn cells(&self) -> &[u8]
         ensures cells { result.now ≡ self.now.cells }
         ensures set_function { IsSetFunction self.now }
@@ -60,7 +62,7 @@ impl SetFn {
         self.cells.as_slice()
     }
 
-    /// The value of the set with the mask.
+    /// The value of the set with the mask, which is not to be empty and to have values of the domain alone.
     pub fn apply(&self, mask: u8) -> u8
         requires some { 0 < mask }
         requires within { mask < 2 ^ self.now.domain }
@@ -70,6 +72,7 @@ impl SetFn {
         self.cells.as_slice()[usize::from(mask) - 1]
     }
 
+    /// An equal set function, in memory of its own.
     pub fn copy(&self) -> Result<SetFn, NoMemory>
         ensures ok { IfOk result (λ g. g ≡ self.now) }
     {

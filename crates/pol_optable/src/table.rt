@@ -7,7 +7,8 @@ use pol_base::{Domain, NoMemory, Values, cell_of};
 use std::alloc::Global;
 use std::marker::Model;
 
-/// An operation of `K` arguments, by the value in each cell.
+/// An operation of `K` arguments, by its values in the order of the cells: the numbers that the arguments
+/// write in base d, the first argument most significant. It has at most 4,096 cells.
 #[derive(Debug, Drop)]
 pub struct OpTable<const K: usize> {
     domain: Domain,
@@ -26,8 +27,9 @@ impl<const K: usize> Model for OpTable<K> {
 }
 
 impl<const K: usize> OpTable<K> {
-    /// The operation with these cells. None exactly where they are no table of `K` arguments: where
-    /// `K` is 0, their number is not d^`K` or is above 4,096, or one is no value of the domain.
+    /// The operation with these values, in the order of the cells. None exactly where they are no table of
+    /// `K` arguments: where `K` is 0, their number is not d^`K` or is above 4,096, or one is no value of the
+    /// domain.
     pub fn from_cells(
         alloc: Global,
         d: Domain,
@@ -47,6 +49,7 @@ impl<const K: usize> OpTable<K> {
         }))
     }
 
+    /// The domain of the arguments and of the values.
     pub fn domain(&self) -> Domain
         ensures domain { result ≡ self.now.domain }
         ensures table { IsOpTable K self.now }
@@ -54,7 +57,7 @@ impl<const K: usize> OpTable<K> {
         self.domain
     }
 
-    /// The values in the order of the cells.
+    /// The d^`K` values in the order of the cells.
     pub fn cells(&self) -> &[u8]
         ensures cells { result.now ≡ self.now.cells }
         ensures table { IsOpTable K self.now }
@@ -62,7 +65,7 @@ impl<const K: usize> OpTable<K> {
         self.cells.as_slice()
     }
 
-    /// The value at the arguments.
+    /// The value at the arguments, which are to be values of the domain.
     pub fn apply(&self, arguments: &[u8; K]) -> u8
         requires below { All (λ v. v < self.now.domain) arguments.now }
         ensures value { result ≡ value_at self.now arguments.now }
@@ -72,6 +75,7 @@ impl<const K: usize> OpTable<K> {
         self.cells.as_slice()[cell as usize]
     }
 
+    /// An equal operation, in memory of its own.
     pub fn copy(&self) -> Result<OpTable<K>, NoMemory>
         ensures ok { IfOk result (λ t. t ≡ self.now) }
     {

@@ -13,7 +13,8 @@ use pol_relation::Relation;
 use std::alloc::Global;
 use std::marker::Model;
 
-/// The rows of a relation by the values that they have at each place, as words of bits.
+/// The rows of a relation by the values that they have at each place, as words of 128 bits, a bit for each
+/// row. Seen in contracts as the relation.
 #[derive(Drop)]
 pub struct ValueRows<'a> {
     relation: &'a Relation,
@@ -42,6 +43,7 @@ impl<'a> ValueRows<'a> {
         ValueRows { relation, words }
     }
 
+    /// The relation whose rows these are.
     pub fn relation(&self) -> &Relation
         ensures same { result.now ≡ self.now }
         ensures relation { IsRelation self.now }
@@ -210,7 +212,8 @@ impl<'a> ValueRows<'a> {
     }
 }
 
-/// A relation with its rows by their values, which takes memory for 30 words for each 128 rows.
+/// What a `ValueRows` reads, made once for a relation: memory for 30 words of 128 bits, one for each of 6
+/// places and 5 values, for each 128 rows. Seen in contracts as the relation.
 #[derive(Drop)]
 pub struct ValueMarks<'a> {
     relation: &'a Relation,

@@ -101,10 +101,10 @@ impl<'a> Model for MemorySink<'a> {
 }
 
 impl<'a> MemorySink<'a> {
-    /// The empty sink with room for `room` bytes. A write takes at most `chunk`, which is to be at least 1. It
-    /// fails exactly where its piece is not empty and no room is left or its number is in `failing`. Writes are
-    /// numbered from 0, those that fail and those of an empty piece too; of an empty piece a write takes 0.
-    /// The memory for all the room is taken here, and no write takes any.
+    /// The empty sink with room for `room` bytes. A write takes at most `chunk`, which is to be at least 1.
+    /// It fails exactly where its piece is not empty and no room is left or its number is in `failing`.
+    /// Writes are numbered from 0, those that fail and those of an empty piece too; of an empty piece one
+    /// takes 0. The memory for all the room is taken here, and no write takes any.
     pub fn new(
         alloc: Global,
         room: usize,

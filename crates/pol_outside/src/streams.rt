@@ -16,7 +16,8 @@ pub trait Source {
     ghost faults: { Self → ℕ };
 
     /// Puts the first of what is left at the front of the buffer and answers how many bytes those are, which
-    /// may be fewer than fit. That is 0 only at the end, or for an empty buffer. A read that fails takes none.
+    /// may be fewer than fit. That is 0 only at the end, or for an empty buffer. A read that fails takes
+    /// none.
     fn read(&mut self, into: &mut [u8]) -> Result<usize, Failed>
         ensures bound { ReadsAtMost result into.new }
         ensures bytes { ReadConsumes (left self.old) (left self.new) result into.new }

@@ -58,7 +58,7 @@ impl Instance {
     }
 
     /// Adds a variable, and answers its number. `Repeated` exactly where a variable has the name, `NoMemory`
-    /// where no memory is found: the instance is then as it was. There are to be fewer than 4,096 variables.
+    /// where no memory is found: the instance is then as it was. There are to be fewer than 4,096 before.
     pub fn add_variable(&mut self, name: &[u8]) -> Result<u32, AddFault>
         requires room { length self.old.variables < 4096 }
         ensures number { IfOk result (λ number. number ≡ length self.old.variables) }
@@ -87,8 +87,8 @@ impl Instance {
     }
 
     /// Adds a constraint of the relation with this number, which is not looked up, on a scope of 1 to 6
-    /// variables of the instance, in which one may repeat. There are to be fewer than 4,096 constraints. Where no
-    /// memory is found the instance is as it was.
+    /// variables of the instance, in which one may repeat. There are to be fewer than 4,096 constraints
+    /// before. Where no memory is found the instance is as it was.
     pub fn add_constraint(&mut self, relation: u32, scope: &[u32]) -> Result<(), NoMemory>
         requires some_places { 1 ≤ length scope.now }
         requires few_places { length scope.now ≤ 6 }

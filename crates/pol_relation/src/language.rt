@@ -65,8 +65,8 @@ impl Language {
     }
 
     /// Adds a relation over the domain of the language, and answers its number. `Repeated` exactly where the
-    /// name is there, `NoMemory` where no memory is found: the relation is then dropped, and the language is as
-    /// it was. There are to be fewer than 4,096 relations.
+    /// name is there, `NoMemory` where no memory is found: the relation is then dropped, and the language as
+    /// it was. There are to be fewer than 4,096 relations before.
     pub fn add(&mut self, name: &[u8], relation: Relation) -> Result<u32, AddFault>
         requires domain { relation.domain ≡ self.old.domain }
         requires room { length self.old.relations < 4096 }
@@ -96,8 +96,8 @@ impl Language {
         Ok(())
     }
 
-    /// Adds a tuple of its arity to the relation that was added last; there is to be one. Where the tuple is a
-    /// row of it already, or where no memory is found, the language is as it was.
+    /// Adds a tuple of its arity to the relation that was added last; there is to be one. Where the tuple is
+    /// a row of it already, or where no memory is found, the language is as it was.
     pub fn insert(&mut self, tuple: &[u8]) -> Result<(), NoMemory>
         requires some { 0 < length self.old.relations }
         requires tuple { IsTuple (last_of self.old).domain (last_of self.old).arity tuple.now }

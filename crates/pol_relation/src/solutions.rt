@@ -7,8 +7,8 @@ use crate::instance::{Instance, MOST_PLACES};
 
 impl Instance {
     /// Whether the tuple that the assignment reads at the scope of constraint `c` is a row of its relation.
-    /// The instance is to fit the language, and the assignment to give a value of the domain to each variable,
-    /// in their order. Takes no memory.
+    /// The instance is to fit the language, and the assignment to give a value of the domain to each
+    /// variable, in their order. Takes no memory.
     pub fn meets(&self, lang: &Language, c: u32, assignment: &[u8]) -> bool
         requires fits { Fits lang.now self.now }
         requires known { c < length self.now.constraints }

@@ -7,8 +7,9 @@ use pol_base::{NoMemory, full_mask, has_value};
 use pol_optable::{OpTable, SetFn};
 use std::alloc::Global;
 
-/// The set function that folds the operation over the members of each set. What the operation
-/// preserves, it preserves too.
+/// The set function that takes each nonempty set to the operation, which is to be a semilattice operation,
+/// applied to its members one by one. What the operation preserves, it preserves too. (After V. Dalmau and
+/// J. Pearson, Closure functions and width 1 problems, CP 1999.)
 pub fn fold(alloc: Global, op: &OpTable<2>) -> Result<SetFn, NoMemory>
     requires semilattice { IsSemilattice op.now }
     ensures fold { IfOk result (λ g. IsFold op.now g) }

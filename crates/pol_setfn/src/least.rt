@@ -10,10 +10,10 @@ use pol_optable::SetFn;
 use pol_relation::Language;
 use std::alloc::Global;
 
-/// The least set function, in order of cells, that preserves every relation and, where `idempotent`, takes
-/// each set of one value to that value. None exactly where there is none. That the sets of values at the
-/// places of some rows are taken to a row is a constraint on its cells; one is made only where a set
-/// function that is tried breaks it.
+/// The least set function, by its values in the order of the masks, that preserves every relation and, where
+/// `idempotent`, takes each set of one value to that value. None exactly where there is none. That the sets
+/// of values at the places of some rows are taken to a row is a constraint on its cells; one is made only
+/// where a set function that is tried breaks it.
 pub fn least_setfn(
     alloc: Global,
     lang: &Language,
