@@ -11,8 +11,8 @@ pub trait Filter {
     /// The domains and numbers of cells for which it is defined.
     ghost takes: { Self → ℕ → ℕ → Type 0 };
 
-    /// Whether it is known that no list within the masks, one for each cell, is wanted. True is always right;
-    /// false is so for masks of one value each: their list is then wanted.
+    /// Whether it is known that no list within the masks, one for each cell, is wanted. False tells something
+    /// only for masks of one value each: their list is wanted.
     fn fails(&self, d: Domain, masks: &[u8]) -> bool
         requires taken { takes self.now d (length masks.now) }
         requires masks { AreMasks d masks.now }
