@@ -39,8 +39,8 @@ pub trait Identity<const K: usize> {
         requires known { cell < d ^ K }
         ensures rule { result ≡ rule_of self.now d cell };
 
-    /// Whether it is known that no table within the masks, one for each cell, satisfies the identity. False tells
-    /// something only for masks of one value each whose table obeys every rule: that table satisfies it.
+    /// Whether it is known that no table within the masks, one for each cell, satisfies the identity. False
+    /// tells something only for masks of one value each whose table obeys every rule: that table satisfies it.
     fn fails_in(&self, d: Domain, masks: &[u8]) -> bool
         requires suited { suits self.now d }
         requires part { IsPart d K masks.now }
