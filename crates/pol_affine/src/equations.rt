@@ -12,7 +12,8 @@ use pol_relation::Relation;
 use std::alloc::Global;
 use std::marker::Model;
 
-/// The equations of a relation, at most seven.
+/// The equations of a relation, at most seven, each with a coefficient for each place of the relation. They
+/// are numbered from 0, and what they are equations of is said at `equations_of`.
 #[derive(Debug, Drop)]
 pub struct Equations {
     items: Vec<Equation>,
@@ -39,7 +40,7 @@ impl Equations {
         }
     }
 
-    /// How many equations there are.
+    /// How many equations there are, at most seven.
     pub fn len(&self) -> u32
         ensures equations { result ≡ length self.now }
         ensures few { result ≤ 7 }
@@ -54,7 +55,7 @@ impl Equations {
         self.items.is_empty()
     }
 
-    /// The equation with the number `i`.
+    /// The equation with the number `i`, which is to be below their number.
     pub fn get(&self, i: u32) -> &Equation
         requires known { i < length self.now }
         ensures equation { result.now ≡ slice_index_or self.now i no_equation }
@@ -64,9 +65,13 @@ impl Equations {
 }
 
 /// Equations modulo d, the size of the domain, on the labels of the values of a tuple, with a coefficient
-/// for each place of the relation. The tuples whose labels meet them all are exactly the rows. There are
-/// at most as many as places and one more; where the relation has no rows, one says that 0 is equal to
-/// another number.
+/// for each place of the relation, and numbers below d. The tuples whose labels meet them all are exactly
+/// the rows. There are at most as many as places and one more; where the relation has no rows, one says
+/// that 0 is equal to another number.
+///
+/// d is to be 2, 3 or 5, the first d labels to be the numbers below d in some order, the label of value 0
+/// first, and the operation that they turn into x - y + z to preserve the relation. The other labels count
+/// for nothing.
 ///
 /// The rows are closed under the operation that the labels turn into x - y + z, so that their labels are a
 /// coset of a linear subspace, and the equations span what vanishes on it. (P. Jeavons, D. Cohen and

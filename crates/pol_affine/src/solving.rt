@@ -20,16 +20,21 @@ use std::alloc::Global;
 /// The answer of a solver whose No is a combination.
 #[derive(Debug, Drop)]
 pub enum SumAnswer {
-    /// A solution.
+    /// A solution: a value for each variable, in their order.
     Yes(Values),
-    /// A combination that shows that there is no solution.
+    /// A combination that shows that there is no solution: `check_combination` accepts it. It has at most
+    /// seven parts for each constraint, and none with multiplier 0.
     No(Combination),
 }
 
-/// Answers the instance, where the operation is affine and preserves each relation of the language. The
-/// equations of the constraints' relations are one system over the labels of the variables' values; where
-/// elimination finds values, these are the labels of a solution, and else its multipliers are those of a
-/// combination.
+/// Answers the instance, where the operation is affine and preserves each relation of the language: No
+/// exactly where there is no solution. The equations of the constraints' relations are one system over the
+/// labels of the variables' values; where elimination finds values, these are the labels of a solution, and
+/// else its multipliers are those of a combination. The labels are the least, in the order of lists, that
+/// turn the operation into x - y + z.
+///
+/// The operation is to be one on the domain of the language, and the instance to fit the language and to
+/// have at most 40 variables and 256 constraints.
 ///
 /// (P. Jeavons, D. Cohen and M. Gyssens, Closure properties of constraints, Journal of the ACM 44, 1997.)
 pub fn solve_affine(

@@ -14,9 +14,13 @@ use pol_relation::Language;
 use std::alloc::Global;
 
 /// The indicator problem of the language for operations of `K` arguments that obey the rules of the
-/// identity: its cells are those of a table, and it has a constraint for each list of `K` rows of each
-/// relation. The lists of values that it admits are exactly the polymorphisms that obey the rules.
-/// From P. Jeavons, D. Cohen and M. Gyssens, Closure properties of constraints (1997).
+/// identity: its cells are those of a table, with the rules as masks and ties, and it has a constraint for
+/// each list of `K` rows of each relation. The lists of values that it admits are exactly the cells of the
+/// polymorphisms that obey the rules; the identity may ask more than its rules.
+///
+/// The identity is to suit the domain, `K` to be from 1 to 16, and there are to be at most 4,096 cells and
+/// at most 2^21 lists of rows in all. (P. Jeavons, D. Cohen and M. Gyssens, Closure properties of
+/// constraints, Journal of the ACM 44, 1997.)
 pub fn problem<const K: usize, I: Identity<K>>(
     alloc: Global,
     lang: &Language,

@@ -11,9 +11,12 @@ use pol_optable::OpTable;
 use pol_relation::Language;
 use std::alloc::Global;
 
-/// The least table, in order of cells, that satisfies the identity and preserves every relation. None
-/// exactly where there is none. Constraints of the indicator problem are made only where a table that
-/// is tried breaks them. After R. Gault and P. Jeavons, Implementing a test for tractability (2004).
+/// The least table, in lexicographic order of its cells, that satisfies the identity and preserves every
+/// relation. None exactly where there is none. Constraints of the indicator problem are made only where a
+/// table that is tried breaks them.
+///
+/// The identity is to suit the domain, `K` to be from 1 to 16, and there are to be at most 4,096 cells.
+/// (After R. Gault and P. Jeavons, Implementing a test for tractability, Constraints 9, 2004.)
 pub fn least_op<const K: usize, I: Identity<K>>(
     alloc: Global,
     lang: &Language,

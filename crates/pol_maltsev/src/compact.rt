@@ -10,8 +10,10 @@ use pol_rows::Rows;
 use std::alloc::Global;
 use std::marker::Model;
 
-/// A set of tuples that a Mal'tsev operation preserves, by rows that represent it: the set is what the
-/// operation makes of the rows.
+/// A set of tuples that a Mal'tsev operation preserves, by a compact representation: members with the same
+/// signature, at most two for each of its triples. The set is what the operation makes of these rows. The
+/// operation is not kept, and each call that needs it is to be given it. (A. Bulatov and V. Dalmau, A
+/// simple algorithm for Mal'tsev constraints, SIAM Journal on Computing 36, 2006.)
 #[derive(Debug, Drop)]
 pub struct Compact {
     rows: Rows,
@@ -33,7 +35,8 @@ impl Compact {
         Compact { rows }
     }
 
-    /// The set of all tuples of `n` values.
+    /// The set of all tuples of `n` values of the operation's domain, where `n` is to be from 1 to 40, and
+    /// the operation a Mal'tsev operation: f(x, y, y) = f(y, y, x) = x.
     pub fn full(alloc: Global, op: &OpTable<3>, n: u32) -> Result<Compact, NoMemory>
         requires maltsev { IsMaltsev op.now }
         requires some_places { 1 ≤ n }
@@ -46,7 +49,7 @@ impl Compact {
         Ok(Compact::new(Table::full(alloc, op, n)?.to_rows(alloc)?))
     }
 
-    /// The rows that represent the set. Takes no memory.
+    /// The rows that represent the set, as wide as its tuples and with its signature. Takes no memory.
     pub fn rows(&self) -> &Rows
         ensures rows { result.now ≡ self.now }
     {

@@ -52,7 +52,8 @@ impl Table {
 }
 
 impl Compact {
-    /// The members that begin with the front.
+    /// The set of the members that begin with the front: at most as many values of the domain as the width.
+    /// All members begin with the empty front. (What Fix-values of Bulatov and Dalmau, 2006, answers.)
     pub fn fix(&self, alloc: Global, op: &OpTable<3>, front: &[u8]) -> Result<Compact, NoMemory>
         requires compact { IsCompact op.now self.now }
         requires few { length front.now ≤ self.now.width }
@@ -67,7 +68,9 @@ impl Compact {
         Ok(Compact::new(fixed.to_rows(alloc)?))
     }
 
-    /// The members that read a row of the relation at the places.
+    /// The set of the members that read a row of the relation at the places, which are below the width, as
+    /// many as the relation's arity and at least one; one may repeat. The relation is to be over the same
+    /// domain, and the operation to preserve it. (What Next of Bulatov and Dalmau, 2006, answers.)
     pub fn next(
         &self,
         alloc: Global,

@@ -169,8 +169,9 @@ fn rows_of(alloc: Global, d: Domain, n: u32, tuples: &[Row]) -> Result<Rows, NoM
 }
 
 impl Compact {
-    /// For each list that a member reads at the places one member that reads it, in ascending order of
-    /// these lists.
+    /// For each list that a member reads at the places one member that reads it, a whole tuple, in
+    /// ascending order of these lists; no rows exactly where there is no member. The places are to be from
+    /// 1 to 7, each below the width; one may repeat.
     pub fn reach(&self, alloc: Global, op: &OpTable<3>, places: &[u32]) -> Result<Rows, NoMemory>
         requires compact { IsCompact op.now self.now }
         requires some { 1 ≤ length places.now }

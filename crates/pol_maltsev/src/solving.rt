@@ -14,18 +14,23 @@ use std::alloc::Global;
 /// The answer of a solver that goes from constraint to constraint by signatures.
 #[derive(Debug, Drop)]
 pub struct MaltsevAnswer {
-    /// A solution. None exactly where there is none.
+    /// A solution: a value for each variable, in their order. None exactly where there is none.
     pub solution: Option<Values>,
-    /// For each number of constraints from 0 on, the size of the signature of the assignments that meet so many
-    /// of the first.
+    /// For each number of constraints, from 0 to all of them, the size of the signature of the assignments
+    /// that meet so many of the first. It is 0 exactly where no assignment does.
     pub sizes: Numbers,
 }
 
 /// Answers the instance, where the operation is a Mal'tsev operation and preserves each relation of the
-/// language. A table of all assignments is restricted to those that meet one constraint after the other; each of
-/// its rows is then a solution.
+/// language. A table of all assignments is restricted to those that meet one constraint after the other;
+/// the rows that it has then for values of its members are solutions, and one of them is answered, if there
+/// is any.
 ///
-/// (A. Bulatov and V. Dalmau, A simple algorithm for Mal'tsev constraints, SIAM Journal on Computing 36, 2006.)
+/// The operation is to be one on the domain of the language, and the instance to fit the language and to
+/// have 1 to 40 variables.
+///
+/// (A. Bulatov and V. Dalmau, A simple algorithm for Mal'tsev constraints, SIAM Journal on Computing 36,
+/// 2006.)
 pub fn solve_maltsev(
     alloc: Global,
     lang: &Language,

@@ -10,7 +10,8 @@ use crate::sums::{left_side, sum_at, sum_right};
 use crate::{Combination, Part};
 use pol_relation::{Instance, Language};
 
-/// Why a combination is not valid, in the order in which the faults are told.
+/// Why a combination is not valid, in the order in which the faults are told. Parts and variables go by
+/// their numbers, from 0, and all sums are modulo the number of values.
 #[derive(Clone, Copy, Debug, PartialEq, Eq)]
 pub enum CombFault {
     /// There are more or fewer labels than values, or a label is not below their number.
@@ -18,17 +19,19 @@ pub enum CombFault {
     /// The first part whose constraint does not exist, whose coefficients are not as many as the
     /// relation's places, or one of whose numbers is not below the number of values.
     BadPlace { part: u32 },
-    /// The first part that the labels of some row of its relation do not meet.
+    /// The first part whose equation the labels of some row of its constraint's relation do not meet.
     NotImplied { part: u32 },
-    /// The first variable whose coefficient in the sum is not 0.
+    /// The first variable whose coefficient in the sum of multiplier times equation is not 0.
     Remainder { variable: u32 },
-    /// The right side of the sum is 0.
+    /// The right side of that sum is 0.
     ZeroRight,
 }
 
-/// Checks that the combination shows that the instance has no solution, whoever made it, and answers its
-/// first fault where it does not. Takes no memory. Goes over the rows of a constraint's relation once for
-/// each part on the constraint, and over all parts once for each variable.
+/// Checks that the combination shows that the instance, which is to fit the language, has no solution,
+/// whoever made it, and answers its first fault where it does not. The labels of each row of a part's
+/// relation are to meet its equation, and the sum of multiplier times equation is to say that 0 is equal to
+/// another number. Takes no memory. Goes over the rows of a relation once for each part on a constraint of
+/// it, and over all parts once for each variable.
 pub fn check_combination(
     lang: &Language,
     inst: &Instance,

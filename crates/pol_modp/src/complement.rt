@@ -14,10 +14,13 @@ use crate::row_steps::first_nonzero;
 use pol_base::{NoMemory, Values};
 use std::alloc::Global;
 
-/// Equations over `n` variables modulo the prime `p` that all of the rows meet, at most `n + 1`. Where the
-/// rows are an affine set nothing else meets them all; without rows one of them says that 0 is equal to
-/// another number. Their coefficients with their right sides are solutions of the rows with -1 behind them:
-/// one for each place that the echelon of these has no pivot at.
+/// Equations over `n` variables modulo the prime `p` that all of the rows meet, at most `n + 1`, with
+/// numbers below `p`. Where the rows are an affine set, one that has x - y + z with any x, y and z, no
+/// other `n` numbers below `p` meet them all; without rows one of them says that 0 is equal to another
+/// number. Their coefficients with their right sides are solutions of the rows with -1 behind them: one for
+/// each place that the echelon of these has no pivot at.
+///
+/// `p` is to be 2, 3 or 5 and `n` at most 40. There are to be at most 15,625 rows, of `n` numbers below `p`.
 pub fn null_space(alloc: Global, p: u8, n: u32, rows: &[Values]) -> Result<Vec<Equation>, NoMemory>
     requires prime { IsSmallPrime p }
     requires few_variables { n ≤ 40 }

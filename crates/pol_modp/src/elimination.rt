@@ -13,16 +13,18 @@ use std::alloc::Global;
 /// What an elimination comes to.
 #[derive(Debug, Drop)]
 pub enum Elim {
-    /// A value for each variable: they meet all equations.
+    /// A value below the modulus for each variable: they meet all equations.
     Values(Values),
-    /// A multiplier for each equation: the sum of multiplier times equation says that 0 is equal to another
-    /// number.
+    /// A multiplier below the modulus for each equation: the sum of multiplier times equation says that 0
+    /// is equal to another number.
     Clash(Values),
 }
 
 /// Solves equations over `n` variables modulo the prime `p`, by Gaussian elimination that carries the
 /// multipliers along. Answers a clash exactly where no values meet all equations. Goes for each equation
-/// over at most `n` rows, of at most `2n + 2` numbers, and keeps these rows and one more.
+/// over at most `n` rows, of at most `2n + 2` numbers, and keeps these rows and one more. `p` is to be 2, 3
+/// or 5, `n` at most 40, and there are to be at most 4,096 equations, of `n` coefficients, with numbers
+/// below `p`.
 pub fn eliminate(alloc: Global, p: u8, n: u32, equations: &[Equation]) -> Result<Elim, NoMemory>
     requires prime { IsSmallPrime p }
     requires few_variables { n ≤ 40 }

@@ -10,7 +10,9 @@ first_place scope x = position (λ y. y == x) scope
 -- to each pair of the nogood belongs the first place of its variable
 abbrev pub AreFirstPlaces : List ℕ → List Pair → List (Option ℕ) → Type 0
 AreFirstPlaces scope nogood places =
-    (i : ℕ) (p : Pair) → slice_get nogood i ≡ Some p → slice_index_or places i None ≡ first_place scope p.variable
+    (i : ℕ) (p : Pair)
+    → slice_get nogood i ≡ Some p
+    → slice_index_or places i None ≡ first_place scope p.variable
 
 -- the row has no other value at the place, if there is a place and the row goes so far
 abbrev pub agrees_at : List ℕ → Option ℕ → ℕ → Bool

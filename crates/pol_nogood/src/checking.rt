@@ -36,11 +36,14 @@ pub struct LogFault {
     pub why: Why,
 }
 
-/// Checks that the log shows that the instance has no solution, whoever made it, and answers its first
-/// fault where it does not. Takes no memory, and goes once over the rows of a constraint's relation for
-/// each step that rests on the constraint. A row is compared at one place for each pair of the step's
-/// nogood, and at each place only where the scope repeats a variable. Each pair of a case's reference is
-/// compared with the pairs of the step's nogood, and only where it is none of these with the row.
+/// Checks that the log shows that the instance, which is to fit the language, has no solution, whoever made
+/// it, and answers its first fault where it does not. Takes no memory. Once for each step by a constraint,
+/// the places of its scope are compared with each other, and the first place of the variable of each pair
+/// of the step's nogood, of at most three, is sought among them. Then it goes once over the rows of the
+/// relation. A row is compared at one place at most for each of these pairs, and at each place only where
+/// the scope repeats a variable: there each place costs a search for the first place of its variable. Each
+/// pair of the nogood that a case refers to is compared with the pairs of the step's nogood, and only where
+/// it is none of these with the row.
 pub fn check_log(lang: &Language, inst: &Instance, log: &Log) -> Result<(), LogFault>
     requires fits { Fits lang.now inst.now }
     ensures valid { IsOk result ↔ IsValidLog lang.now inst.now log.now }

@@ -9,8 +9,9 @@ use pol_optable::OpTable;
 use std::alloc::Global;
 use std::marker::Model;
 
-/// Tuples of one width, in the order in which they came. Beside them stand their numbers in ascending order
-/// of the rows, where rows that agree on their first places are neighbours.
+/// At most 2^20 tuples of one width, from 1 to 4,096, over one domain, in the order in which they came; one
+/// may repeat. Beside them stand their numbers in ascending order of the rows, where rows that agree on
+/// their first places are neighbours.
 #[derive(Debug, Drop)]
 pub struct Rows {
     domain: Domain,
@@ -32,7 +33,7 @@ impl Model for Rows {
 }
 
 impl Rows {
-    /// No rows, of `n` values each. Takes no memory.
+    /// No rows, of `n` values of the domain each, where `n` is to be from 1 to 4,096. Takes no memory.
     pub fn new(alloc: Global, d: Domain, n: u32) -> Rows
         requires some_places { 1 ≤ n }
         requires few_places { n ≤ 4096 }
@@ -49,7 +50,9 @@ impl Rows {
         }
     }
 
-    /// Adds a row behind the others. Compares it with about log m of m rows, and moves at most m numbers.
+    /// Adds a row, of as many values of the domain as the width, behind the others. There are to be fewer
+    /// than 2^20. Where no memory is found the rows are as they were. Compares it with about log m of m
+    /// rows, and moves at most m numbers.
     pub fn push(&mut self, row: &[u8]) -> Result<(), NoMemory>
         requires tuple { IsTuple self.old.domain self.old.width row.now }
         requires room { length self.old.rows < 1048576 }
@@ -96,6 +99,7 @@ impl Rows {
         low
     }
 
+    /// The domain of the values.
     pub fn domain(&self) -> Domain
         ensures domain { result ≡ self.now.domain }
         ensures rows { IsRows self.now }
@@ -103,7 +107,7 @@ impl Rows {
         self.domain
     }
 
-    /// How many values a row has.
+    /// How many values a row has, from 1 to 4,096.
     pub fn width(&self) -> u32
         ensures width { result ≡ self.now.width }
         ensures rows { IsRows self.now }
@@ -111,7 +115,7 @@ impl Rows {
         self.width
     }
 
-    /// How many rows there are.
+    /// How many rows there are, at most 2^20. Equal rows count each.
     pub fn len(&self) -> u32
         ensures rows { result ≡ length self.now.rows }
         ensures few { IsRows self.now }
@@ -130,7 +134,8 @@ impl Rows {
         &self.values.as_slice()[start..start + width]
     }
 
-    /// Writes the operation of three rows place by place. Takes no memory.
+    /// Writes what the operation, one on the domain of the rows, makes of the rows with the numbers `i`,
+    /// `j` and `k`, place by place. `out` is to be as long as a row. Takes no memory.
     pub fn apply3_into(&self, op: &OpTable<3>, i: u32, j: u32, k: u32, out: &mut [u8])
         requires domain { op.now.domain ≡ self.now.domain }
         requires first { i < length self.now.rows }

@@ -9,9 +9,12 @@ use crate::runs::lesser_pair;
 use pol_base::{Domain, has_value};
 
 impl Rows {
-    /// The least pair of numbers of rows that agree before place `i` and have `a` and `b` there. None exactly
-    /// where the triple is not in the signature of the rows. Takes no memory. Goes once over the rows in their
-    /// order, and compares each with the first of its run before the place.
+    /// The least pair of numbers of rows, by the first number and then by the second, that agree before
+    /// place `i` and have `a` and `b` there; both may be one row. None exactly where the triple of `i`, `a`
+    /// and `b` is not in the signature of the rows. Takes no memory. Goes once over the rows in ascending
+    /// order, and compares each with the first of its run before the place. `i` is to be below the width.
+    /// (Signatures: A. Bulatov and V. Dalmau, A simple algorithm for Mal'tsev constraints, SIAM Journal on
+    /// Computing 36, 2006.)
     pub fn pair_for(&self, i: u32, a: u8, b: u8) -> Option<(u32, u32)>
         requires place { i < self.now.width }
         ensures least { IfSome result (λ pair. IsLeastPair self.now.rows i a b pair.0 pair.1) }
@@ -29,8 +32,9 @@ impl Rows {
         least
     }
 
-    /// How many triples the signature of the rows has. Takes no memory. Does for each place what `pair_for` does
-    /// for one: linear in the rows, at most quadratic in the places.
+    /// How many triples of a place and two values the signature of the rows has, as a set: at most n d d,
+    /// for n places and d values. Takes no memory. Goes for each place once over the rows, as `pair_for`
+    /// does for one: linear in the rows, at most quadratic in the places. (Signatures: as at `pair_for`.)
     pub fn signature_size(&self) -> u32
         ensures size { IsSignatureSize self.now.width self.now.domain (Contains self.now.rows) result }
         ensures few { result ≤ self.now.width * (self.now.domain * self.now.domain) }
