@@ -31,7 +31,7 @@ static CONSTRAINTS: [Drawn; 12] = [
     (150, 7, 29, 0, &[29, 33, 8]),
 ];
 
-/// The hidden values of `i0` in the file of the number 2, drawn by the same program.
+/// The hidden values of `i0` in the file of the number 2, drawn by such a program, too.
 static HIDDEN: [u8; 40] = [
     2, 2, 0, 2, 1, 2, 0, 1, 1, 2, 1, 0, 1, 2, 2, 2, 0, 0, 2, 1, 2, 1, 1, 1, 2, 0, 2, 2, 0, 1, 0, 2,
     2, 1, 0, 1, 2, 2, 1, 0,
@@ -41,8 +41,8 @@ fn hidden() -> &'static [u8] {
     &HIDDEN
 }
 
-/// Forty draws behind this number the state is 1, with which the example of `rand` in the C standard
-/// begins. Both constraints are met by the hidden values, and the first two that are drawn.
+/// Behind the forty hidden values of `i0` the state is 1, with which the example of `rand` in the C
+/// standard begins, and these values meet the first two constraints that are drawn.
 #[test]
 fn draws_the_numbers_of_the_c_standard(rt: HostRuntime) -> Result<(), Fail> {
     // the example draws 16838, 5758, 10113, 17515, 31051 and 5627 below 32768
