@@ -7,6 +7,3 @@ mod solving;
 
 pub use equations::{Equations, equations_of};
 pub use solving::{SumAnswer, solve_affine};
-
-#[cfg(test)]
-mod tests;

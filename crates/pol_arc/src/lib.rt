@@ -9,6 +9,3 @@ mod width_one;
 
 pub use consistency::{Consistency, arc};
 pub use width_one::solve_width_one;
-
-#[cfg(test)]
-mod tests;

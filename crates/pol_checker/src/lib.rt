@@ -12,6 +12,3 @@ pub use checking::check_item;
 pub use laws::{acceptance_laws, verdict_laws};
 pub use texts::put_verdict;
 pub use verdict::{Cause, Verdict};
-
-#[cfg(test)]
-mod tests;

@@ -6,6 +6,3 @@ mod kinds;
 mod making;
 
 pub use making::make;
-
-#[cfg(test)]
-mod tests;

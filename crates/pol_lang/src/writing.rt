@@ -149,26 +149,3 @@ fn put_scope(out: &mut Values, inst: &Instance, scope: &[u32]) -> Result<(), NoM
     }
     Ok(())
 }
-
-#[cfg(test)]
-mod tests {
-    use super::*;
-    use crate::read_file;
-    use std::test::Fail;
-
-    #[test]
-    fn writes_a_file_as_its_canonical_text(rt: HostRuntime) -> Result<(), Fail> {
-        let text =
-            b"# a file\r\npolyanna 01\r\n\r\n domain\t2\r\nrelation one 1\r\ntuple 1\r\ntuple 01 \r\nend";
-        let (file, rest) = read_file(rt.alloc(), text)?;
-        assert_eq!(rt; rest.place, text.len());
-        assert_eq!(rt; rest.line, 9);
-        let mut out = Values::new(rt.alloc());
-        put_file(&mut out, &file)?;
-        assert_eq!(rt;
-            out.as_slice(),
-            b"polyanna 1\ndomain 2\nrelation one 1\ntuple 1\nend\n".as_slice()
-        );
-        Ok(())
-    }
-}

@@ -23,6 +23,3 @@ mod walking;
 
 pub use compact::Compact;
 pub use solving::{MaltsevAnswer, solve_maltsev};
-
-#[cfg(test)]
-mod tests;

@@ -20,8 +20,3 @@ pub use items::Items;
 pub use limits::printable;
 pub use printing::{put_head, put_item, put_last};
 pub use reading::read_items;
-
-#[cfg(test)]
-mod reading_tests;
-#[cfg(test)]
-mod tests;

@@ -14,6 +14,3 @@ mod sweeping;
 mod values;
 
 pub use solving::solve_nu;
-
-#[cfg(test)]
-mod tests;

@@ -3,7 +3,7 @@ use Rattle.std.proofs.lemmas.Bool.{cases_eq}
 use Rattle.std.proofs.lemmas.List.{get_or_default}
 use Rattle.pol_relation.specs.Relations.{NamedRelation, no_named, relation_of}
 use Rattle.pol_optable.specs.SetFunctions.{PreservesSets}
-use Rattle.pol_arc.proofs.tests.preserves.Goals as goal
+use Rattle.pol_tests_solve.proofs.arcs.preserves.Goals as goal
 
 pub loop-i-preserved : goal.loop-i-preserved
 loop-i-preserved c =

@@ -1,6 +1,5 @@
-use crate::draws::Draws;
-use crate::make;
-use pol_base::Domain;
+//! Generated files, beside the numbers of the C standard and what another program made.
+use pol_gen::make;
 use std::test::Fail;
 
 /// A number, and how many constraints its instances have.
@@ -32,21 +31,43 @@ static CONSTRAINTS: [Drawn; 12] = [
     (150, 7, 29, 0, &[29, 33, 8]),
 ];
 
+/// The hidden values of `i0` in the file of the number 2, drawn by such a program, too.
+static HIDDEN: [u8; 40] = [
+    2, 2, 0, 2, 1, 2, 0, 1, 1, 2, 1, 0, 1, 2, 2, 2, 0, 0, 2, 1, 2, 1, 1, 1, 2, 0, 2, 2, 0, 1, 0, 2,
+    2, 1, 0, 1, 2, 2, 1, 0,
+];
+
+fn hidden() -> &'static [u8] {
+    &HIDDEN
+}
+
+/// Behind the forty hidden values of `i0` the state is 1, with which the example of `rand` in the C
+/// standard begins, and these values meet the first two constraints that are drawn.
 #[test]
 fn draws_the_numbers_of_the_c_standard(rt: HostRuntime) -> Result<(), Fail> {
-    // the example of `rand` there draws below 32768, and begins with 1
-    let mut draws = Draws::new(1);
-    for number in [16838, 5758, 10113, 17515, 31051] {
-        assert_eq!(rt; draws.draw(32768), number);
-    }
+    // the example draws 16838, 5758, 10113, 17515, 31051 and 5627 below 32768
+    let file = make(rt.alloc(), 10_388_330_985)?;
+    let inst = file.instance(0);
+    assert!(rt; 1 < inst.constraints());
+    assert_eq!(rt; inst.relation_of(0), 16_838 % 3);
+    assert_eq!(rt; inst.scope(0), [5_758 % 40].as_slice());
+    assert_eq!(rt; inst.relation_of(1), 10_113 % 3);
+    assert_eq!(rt;
+        inst.scope(1),
+        [17_515 % 40, 31_051 % 40, 5_627 % 40].as_slice()
+    );
     Ok(())
 }
 
 #[test]
-fn draws_hidden_values_from_the_number(rt: HostRuntime) -> Result<(), Fail> {
-    let three = Domain::new(3).expect(&rt, "three values");
-    let hidden = Draws::new(2).draw_values(rt.alloc(), 6, three)?;
-    assert_eq!(rt; hidden.as_slice(), [2, 2, 0, 2, 1, 2].as_slice());
+fn hides_the_values_that_are_drawn_first(rt: HostRuntime) -> Result<(), Fail> {
+    let file = make(rt.alloc(), 2)?;
+    let inst = file.instance(0);
+    let d = file.lang().domain().size();
+    assert!(rt; inst.fits(file.lang()));
+    assert!(rt; hidden().len() == inst.variables() as usize);
+    assert!(rt; hidden().iter().all(|value| *value < d));
+    assert!(rt; inst.is_solution(file.lang(), hidden()));
     Ok(())
 }
 

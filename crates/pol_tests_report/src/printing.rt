@@ -1,7 +1,8 @@
-use crate::{Item, printable, put_head, put_item, put_last};
+//! The lines of each item of a report, and which items may be printed.
 use pol_base::{ClassName, NoMemory, Numbers, Values};
 use pol_modp::{Combination, Part};
 use pol_nogood::{Log, Nogood, Step};
+use pol_report::{Item, printable, put_head, put_item, put_last};
 use std::alloc::Global;
 use std::test::Fail;
 

@@ -1,29 +1,25 @@
+//! Arc consistency, and the solver of set functions, on instances whose answers were found by hand.
 ghost use Rattle.std.specs.Prelude.{◌≡◌, IsTrue};
 ghost use Rattle.pol_optable.specs.SetFunctions.{IsSetPolymorphism};
 
-use crate::{Consistency, arc, solve_width_one};
-use pol_base::{Domain, Values};
+use crate::fixtures::{Listed, On, add, instance, language};
+use pol_arc::{Consistency, arc, solve_width_one};
+use pol_base::Values;
 use pol_nogood::{LogAnswer, check_log};
 use pol_optable::SetFn;
-use pol_relation::{Instance, Language, Relation};
+use pol_relation::{Instance, Language};
 use std::alloc::Global;
 use std::process::Abort;
 use std::test::Fail;
 
-/// A relation: its arity, and its rows, one behind another.
-type Rows = (u32, &'static [u8]);
-
-/// A constraint: the number of its relation, and its scope.
-type On = (u32, &'static [u32]);
-
 /// An instance: the size of the domain, the relations, the number of variables, and the constraints.
-type Written = (u32, &'static [Rows], u32, &'static [On]);
+type Written = (u32, &'static [Listed], u32, &'static [On]);
 
-const LESS: Rows = (2, &[0, 1, 0, 2, 1, 2]);
+const LESS: Listed = (2, &[0, 1, 0, 2, 1, 2]);
 
-const UNEQUAL: Rows = (2, &[0, 1, 1, 0]);
+const UNEQUAL: Listed = (2, &[0, 1, 1, 0]);
 
-const IMPLIES: Rows = (2, &[0, 0, 0, 1, 1, 1]);
+const IMPLIES: Listed = (2, &[0, 0, 0, 1, 1, 1]);
 
 /// Instances, and the values that have supports in them.
 static LEFT: [(Written, &'static [u8]); 14] = [
@@ -165,7 +161,7 @@ fn a_variable_without_a_value_has_a_log(rt: HostRuntime) -> Result<(), Fail> {
 #[test]
 fn goes_through_forty_variables(rt: HostRuntime) -> Result<(), Fail> {
     let alloc = rt.alloc();
-    let relations: [Rows; 3] = [IMPLIES, (1, &[0]), (1, &[1])];
+    let relations: [Listed; 3] = [IMPLIES, (1, &[0]), (1, &[1])];
     let language = language(&rt, alloc, 2, &relations)?;
     let mut chain = instance(&rt, alloc, 40, &[])?;
     for x in 0..39 {
@@ -256,52 +252,6 @@ fn masks_of(
             Ok(None)
         }
     }
-}
-
-fn language(
-    rt: &impl Abort,
-    alloc: Global,
-    size: u32,
-    relations: &[Rows],
-) -> Result<Language, Fail> {
-    let d = Domain::new(size).expect(rt, "a domain");
-    let mut language = Language::new(alloc, d);
-    for (arity, rows) in relations {
-        let d = language.domain();
-        assert!(rt; 1 <= *arity && *arity <= 6);
-        assert!(rt; rows.len() % *arity as usize == 0);
-        assert!(rt; rows.iter().all(|value| *value < d.size()));
-        assert!(rt; language.len() < 26);
-        let name = [b'a' + language.len() as u8];
-        language.add(&name, Relation::from_rows(alloc, d, *arity, rows)?)?;
-    }
-    Ok(language)
-}
-
-fn instance(
-    rt: &impl Abort,
-    alloc: Global,
-    variables: u32,
-    constraints: &[On],
-) -> Result<Instance, Fail> {
-    let mut instance = Instance::new(alloc, b"small")?;
-    for x in 0..variables {
-        assert!(rt; x < 100 && instance.variables() < 100);
-        instance.add_variable(&[x as u8])?;
-    }
-    for (relation, scope) in constraints {
-        add(rt, &mut instance, *relation, scope)?;
-    }
-    Ok(instance)
-}
-
-fn add(rt: &impl Abort, instance: &mut Instance, relation: u32, scope: &[u32]) -> Result<(), Fail> {
-    let variables = instance.variables();
-    assert!(rt; 1 <= scope.len() && scope.len() <= 6);
-    assert!(rt; scope.iter().all(|x| *x < variables));
-    assert!(rt; instance.constraints() < 100);
-    instance.add_constraint(relation, scope)?;
-    Ok(())
 }
 
 /// Whether the set function preserves each relation of the language.

@@ -1,36 +1,31 @@
-ghost use Rattle.std.specs.Prelude.{◌≡◌, IsTrue, IfOk};
-ghost use Rattle.pol_optable.specs.Operations.{IsPolymorphism};
+//! Compact representations, and the solver of Mal'tsev operations, by the sum of three values modulo 2.
+ghost use Rattle.std.specs.Prelude.{IfOk};
 ghost use Rattle.pol_optable.specs.Identities.{IsMaltsev};
 ghost use Rattle.pol_maltsev.specs.Compacts.{IsCompact};
 
-use crate::{Compact, MaltsevAnswer, solve_maltsev};
+use crate::fixtures::{Listed, On, instance, is_solution, language, preserves, relation};
 use pol_base::Domain;
 use pol_identity::{Identity, Maltsev};
+use pol_maltsev::{Compact, MaltsevAnswer, solve_maltsev};
 use pol_optable::OpTable;
-use pol_relation::{Instance, Language, Relation};
+use pol_relation::{Instance, Language};
 use pol_rows::Rows;
 use std::alloc::Global;
 use std::process::Abort;
 use std::test::Fail;
 
-/// A relation: its arity, and its rows, one behind another.
-type Written = (u32, &'static [u8]);
-
-/// A constraint: the number of its relation, and its scope.
-type On = (u32, &'static [u32]);
-
 /// The relations, the number of variables, the constraints, and the sizes.
-type Sized = (&'static [Written], u32, &'static [On], &'static [u32]);
+type Sized = (&'static [Listed], u32, &'static [On], &'static [u32]);
 
-const UNEQUAL: Written = (2, &[0, 1, 1, 0]);
+const UNEQUAL: Listed = (2, &[0, 1, 1, 0]);
 
-const ZERO: Written = (1, &[0]);
+const ZERO: Listed = (1, &[0]);
 
-const ONE: Written = (1, &[1]);
+const ONE: Listed = (1, &[1]);
 
-const EVEN: Written = (3, &[0, 0, 0, 0, 1, 1, 1, 0, 1, 1, 1, 0]);
+const EVEN: Listed = (3, &[0, 0, 0, 0, 1, 1, 1, 0, 1, 1, 1, 0]);
 
-const ALL_ZERO: Written = (6, &[0, 0, 0, 0, 0, 0]);
+const ALL_ZERO: Listed = (6, &[0, 0, 0, 0, 0, 0]);
 
 /// Sizes that are counted by hand. The last is 0 where no assignment meets all constraints.
 static SIZED: [Sized; 8] = [
@@ -150,7 +145,8 @@ fn fix(
 fn unequal_pairs_have_six_triples(rt: HostRuntime) -> Result<(), Fail> {
     let sum = sum(&rt, rt.alloc())?;
     let pairs = Compact::full(rt.alloc(), &sum, 2)?;
-    let unequal = relation(&rt, rt.alloc(), sum.domain(), UNEQUAL)?;
+    let (arity, rows) = UNEQUAL;
+    let unequal = relation(&rt, rt.alloc(), sum.domain(), arity, rows)?;
     assert!(rt; unequal.arity() == 2 && sum.preserves(&unequal));
     let next = pairs.next(rt.alloc(), &sum, &[0, 1], &unequal)?;
     assert_eq!(rt; next.rows().signature_size(), 6);
@@ -163,7 +159,7 @@ fn unequal_pairs_have_six_triples(rt: HostRuntime) -> Result<(), Fail> {
 fn sizes_are_those_that_are_counted_by_hand(rt: HostRuntime) -> Result<(), Fail> {
     let sum = sum(&rt, rt.alloc())?;
     for (relations, variables, constraints, sizes) in sized() {
-        let language = language(&rt, rt.alloc(), sum.domain(), relations)?;
+        let language = language(&rt, rt.alloc(), 2, relations)?;
         let instance = instance(&rt, rt.alloc(), *variables, constraints)?;
         let answer = answer(&rt, rt.alloc(), &language, &instance, &sum)?;
         assert_eq!(rt; answer.sizes.as_slice(), *sizes, "at {constraints:?}");
@@ -190,71 +186,7 @@ fn answer(
     assert!(rt; 1 <= instance.variables() && instance.variables() <= 40);
     let answer = solve_maltsev(alloc, language, instance, op)?;
     if let Some(values) = &answer.solution {
-        let d = language.domain().size();
-        assert!(rt; values.as_slice().len() == instance.variables() as usize);
-        assert!(rt; values.as_slice().iter().all(|value| *value < d));
-        assert!(rt; instance.is_solution(language, values.as_slice()));
+        assert!(rt; is_solution(rt, language, instance, values.as_slice()));
     }
     Ok(answer)
-}
-
-/// Whether the operation preserves each relation of the language.
-fn preserves(op: &OpTable<3>, language: &Language) -> bool
-    requires domain { op.now.domain ≡ language.now.domain }
-    ensures preserves { IsTrue result → IsPolymorphism op.now language.now }
-{
-    for i in 0..language.len() {
-        if !op.preserves(language.relation(i)) {
-            return false;
-        }
-    }
-    true
-}
-
-fn relation(rt: &impl Abort, alloc: Global, d: Domain, written: Written) -> Result<Relation, Fail>
-    ensures domain { IfOk result (λ r. r.domain ≡ d) }
-{
-    let (arity, rows) = written;
-    let size = d.size();
-    assert!(rt; 1 <= arity && arity <= 6);
-    assert!(rt; rows.len() % arity as usize == 0);
-    assert!(rt; rows.iter().all(|value| *value < size));
-    Ok(Relation::from_rows(alloc, d, arity, rows)?)
-}
-
-fn language(
-    rt: &impl Abort,
-    alloc: Global,
-    d: Domain,
-    relations: &[Written],
-) -> Result<Language, Fail> {
-    let mut language = Language::new(alloc, d);
-    for written in relations {
-        let d = language.domain();
-        assert!(rt; language.len() < 26);
-        let name = [b'a' + language.len() as u8];
-        language.add(&name, relation(rt, alloc, d, *written)?)?;
-    }
-    Ok(language)
-}
-
-fn instance(
-    rt: &impl Abort,
-    alloc: Global,
-    variables: u32,
-    constraints: &[On],
-) -> Result<Instance, Fail> {
-    let mut instance = Instance::new(alloc, b"small")?;
-    for x in 0..variables {
-        assert!(rt; x < 100 && instance.variables() < 100);
-        instance.add_variable(&[x as u8])?;
-    }
-    for (relation, scope) in constraints {
-        let variables = instance.variables();
-        assert!(rt; 1 <= scope.len() && scope.len() <= 6);
-        assert!(rt; scope.iter().all(|x| *x < variables));
-        assert!(rt; instance.constraints() < 256);
-        instance.add_constraint(*relation, scope)?;
-    }
-    Ok(instance)
 }

@@ -1,42 +1,36 @@
-ghost use Rattle.std.specs.Prelude.{◌≡◌, IsTrue, IfOk};
-ghost use Rattle.pol_optable.specs.Operations.{IsPolymorphism};
+//! Equations of relations, and the solver of affine operations, beside loops over all assignments.
+ghost use Rattle.std.specs.Prelude.{◌≡◌, IfOk};
 
-use crate::{Equations, SumAnswer, equations_of, solve_affine};
+use crate::fixtures::{Listed, On, add, instance, is_solution, language, preserves, relation};
+use pol_affine::{Equations, SumAnswer, equations_of, solve_affine};
 use pol_base::{Domain, Values};
 use pol_identity::Affine;
 use pol_modp::{Equation, check_combination};
-use pol_optable::OpTable;
 use pol_relation::{Instance, Language, Relation};
 use std::alloc::Global;
 use std::process::Abort;
 use std::test::Fail;
 
-/// A relation: its arity, and its rows, one behind another.
-type Rows = (u32, &'static [u8]);
-
-/// A constraint: the number of its relation, and its scope.
-type On = (u32, &'static [u32]);
-
 /// Labels, the size of the domain, the relations, the number of variables, and the constraints.
-type Written = ([u8; 5], u32, &'static [Rows], u32, &'static [On]);
+type Written = ([u8; 5], u32, &'static [Listed], u32, &'static [On]);
 
 const NATURAL: [u8; 5] = [0, 1, 2, 3, 4];
 
-const NO_ROWS: Rows = (2, &[]);
+const NO_ROWS: Listed = (2, &[]);
 
-const EVEN: Rows = (3, &[0, 0, 0, 0, 1, 1, 1, 0, 1, 1, 1, 0]);
+const EVEN: Listed = (3, &[0, 0, 0, 0, 1, 1, 1, 0, 1, 1, 1, 0]);
 
-const ODD: Rows = (3, &[0, 0, 1, 0, 1, 0, 1, 0, 0, 1, 1, 1]);
+const ODD: Listed = (3, &[0, 0, 1, 0, 1, 0, 1, 0, 0, 1, 1, 1]);
 
 /// The three values that add up to 0 modulo 3, and those that add up to 1.
-const SUM_IS_0: Rows = (
+const SUM_IS_0: Listed = (
     3,
     &[
         0, 0, 0, 0, 1, 2, 0, 2, 1, 1, 0, 2, 1, 1, 1, 1, 2, 0, 2, 0, 1, 2, 1, 0, 2, 2, 2,
     ],
 );
 
-const SUM_IS_1: Rows = (
+const SUM_IS_1: Listed = (
     3,
     &[
         0, 0, 1, 0, 1, 0, 0, 2, 2, 1, 0, 0, 1, 1, 2, 1, 2, 1, 2, 0, 2, 2, 1, 1, 2, 2, 0,
@@ -47,10 +41,10 @@ const SUM_IS_1: Rows = (
 const TURNED: [u8; 5] = [0, 1, 2, 4, 3];
 
 /// The pairs whose labels add up to 0 modulo 5, where 3 and 4 have the labels 4 and 3.
-const OPPOSITE: Rows = (2, &[0, 0, 1, 3, 2, 4, 3, 1, 4, 2]);
+const OPPOSITE: Listed = (2, &[0, 0, 1, 3, 2, 4, 3, 1, 4, 2]);
 
 /// Labels, and relations that their operations preserve.
-static DESCRIBED: [([u8; 5], u32, Rows); 8] = [
+static DESCRIBED: [([u8; 5], u32, Listed); 8] = [
     (NATURAL, 2, EVEN),
     (NATURAL, 2, NO_ROWS),
     ([0, 1, 2, 0, 0], 3, SUM_IS_1),
@@ -153,7 +147,7 @@ static SCOPES: [&'static [u32]; 6] = [
     &[2, 1, 2],
 ];
 
-fn described() -> &'static [([u8; 5], u32, Rows)] {
+fn described() -> &'static [([u8; 5], u32, Listed)] {
     &DESCRIBED
 }
 
@@ -196,7 +190,7 @@ fn without_a_solution_there_is_a_combination(rt: HostRuntime) -> Result<(), Fail
 
 #[test]
 fn decides_as_all_assignments_do(rt: HostRuntime) -> Result<(), Fail> {
-    let systems: [(u32, &'static [Rows]); 2] = [(2, &[EVEN, ODD]), (3, &[SUM_IS_0, SUM_IS_1])];
+    let systems: [(u32, &'static [Listed]); 2] = [(2, &[EVEN, ODD]), (3, &[SUM_IS_0, SUM_IS_1])];
     for (size, relations) in systems {
         let language = language(&rt, rt.alloc(), size, relations)?;
         for first in scopes() {
@@ -269,19 +263,6 @@ fn decides(
     Ok(())
 }
 
-fn is_solution(
-    rt: &impl Abort,
-    language: &Language,
-    instance: &Instance,
-    assignment: &[u8],
-) -> bool {
-    let d = language.domain().size();
-    assert!(rt; instance.fits(language));
-    assert!(rt; assignment.len() == instance.variables() as usize);
-    assert!(rt; assignment.iter().all(|value| *value < d));
-    instance.is_solution(language, assignment)
-}
-
 /// The solution of the instance. None where there is none, and the combination shows it.
 fn solution(rt: &impl Abort, alloc: Global, written: &Written) -> Result<Option<Values>, Fail> {
     let (labels, size, relations, variables, constraints) = written;
@@ -316,26 +297,13 @@ fn answer(
     }
 }
 
-/// Whether the operation preserves each relation of the language.
-fn preserves(op: &OpTable<3>, language: &Language) -> bool
-    requires domain { op.now.domain ≡ language.now.domain }
-    ensures preserves { IsTrue result → IsPolymorphism op.now language.now }
-{
-    for i in 0..language.len() {
-        if !op.preserves(language.relation(i)) {
-            return false;
-        }
-    }
-    true
-}
-
 /// That of all tuples exactly the rows meet the equations.
 fn same_rows(
     rt: &impl Abort,
     alloc: Global,
     labels: [u8; 5],
     size: u32,
-    rows: &Rows,
+    rows: &Listed,
 ) -> Result<(), Fail> {
     let d = Domain::new(size).expect(rt, "a domain");
     let (arity, rows) = rows;
@@ -395,64 +363,4 @@ fn is_met(rt: &impl Abort, size: u8, equation: &Equation, labels: [u8; 5], tuple
     }
     assert!(rt; 0 < size);
     sum % u32::from(size) == u32::from(equation.right())
-}
-
-fn relation(
-    rt: &impl Abort,
-    alloc: Global,
-    d: Domain,
-    arity: u32,
-    rows: &[u8],
-) -> Result<Relation, Fail>
-    ensures domain { IfOk result (λ r. r.domain ≡ d) }
-    ensures arity { IfOk result (λ r. r.arity ≡ arity) }
-{
-    let size = d.size();
-    assert!(rt; 1 <= arity && arity <= 6);
-    assert!(rt; rows.len() % arity as usize == 0);
-    assert!(rt; rows.iter().all(|value| *value < size));
-    Ok(Relation::from_rows(alloc, d, arity, rows)?)
-}
-
-fn language(
-    rt: &impl Abort,
-    alloc: Global,
-    size: u32,
-    relations: &[Rows],
-) -> Result<Language, Fail> {
-    let d = Domain::new(size).expect(rt, "a domain");
-    let mut language = Language::new(alloc, d);
-    for (arity, rows) in relations {
-        let d = language.domain();
-        assert!(rt; language.len() < 26);
-        let name = [b'a' + language.len() as u8];
-        language.add(&name, relation(rt, alloc, d, *arity, rows)?)?;
-    }
-    Ok(language)
-}
-
-fn instance(
-    rt: &impl Abort,
-    alloc: Global,
-    variables: u32,
-    constraints: &[On],
-) -> Result<Instance, Fail> {
-    let mut instance = Instance::new(alloc, b"small")?;
-    for x in 0..variables {
-        assert!(rt; x < 100 && instance.variables() < 100);
-        instance.add_variable(&[x as u8])?;
-    }
-    for (relation, scope) in constraints {
-        add(rt, &mut instance, *relation, scope)?;
-    }
-    Ok(instance)
-}
-
-fn add(rt: &impl Abort, instance: &mut Instance, relation: u32, scope: &[u32]) -> Result<(), Fail> {
-    let variables = instance.variables();
-    assert!(rt; 1 <= scope.len() && scope.len() <= 6);
-    assert!(rt; scope.iter().all(|x| *x < variables));
-    assert!(rt; instance.constraints() < 256);
-    instance.add_constraint(relation, scope)?;
-    Ok(())
 }

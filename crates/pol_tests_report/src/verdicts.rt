@@ -1,7 +1,8 @@
+//! Verdicts found by hand, on tables, solutions and certificates, and the lines of verdicts.
 ghost use Rattle.std.specs.Prelude.{◌≡◌};
 
-use crate::{Cause, Verdict, check_item, put_verdict};
 use pol_base::{ClassName, Domain, Numbers, Values};
+use pol_checker::{Cause, Verdict, check_item, put_verdict};
 use pol_lang::File;
 use pol_modp::{CombFault, Combination, Part};
 use pol_nogood::{Log, LogFault, Nogood, Step, Why};

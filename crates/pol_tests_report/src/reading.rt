@@ -1,5 +1,6 @@
-use crate::{Item, Items, printable, put_head, put_item, put_last, read_items};
+//! Reports that are read again, and the refusals of texts that are none.
 use pol_base::{NoMemory, Values};
+use pol_report::{Items, printable, put_head, put_item, put_last, read_items};
 use pol_text::{ReadFail, Refusal, Word};
 use std::alloc::Global;
 use std::test::Fail;
