@@ -1,8 +1,7 @@
 //! Lines, tokens, numbers, names and refusals, on texts worked out by hand.
 use pol_base::Values;
 use pol_text::{
-    Refusal, Tokens, Word, count_lines, is_name, number, put_numbers, put_refusal, put_values,
-    significant,
+    Refusal, Word, count_lines, is_name, number, put_numbers, put_refusal, put_values, significant,
 };
 use std::test::Fail;
 
@@ -57,7 +56,8 @@ const NUMBERS: [Option<Option<u32>>; 8] = [
 
 #[test]
 fn reads_the_number_of_each_token(rt: HostRuntime) {
-    let mut tokens = Tokens::new(LINE);
+    let line = significant(LINE, 1).next().expect(&rt, "a line");
+    let mut tokens = line.tokens();
     for number in NUMBERS {
         assert_eq!(rt; tokens.next_number(), number);
     }
