@@ -18,6 +18,3 @@ pub use no_memory::NoMemory;
 pub use numbering::{cell_of, cells, digit, inverse_laws};
 pub use numbers::Numbers;
 pub use values::Values;
-
-#[cfg(test)]
-mod tests;

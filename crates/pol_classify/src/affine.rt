@@ -100,19 +100,3 @@ pub(crate) fn least_affine(alloc: Global, lang: &Language) -> Result<Option<OpTa
     }
     Ok(best)
 }
-
-#[cfg(test)]
-mod tests {
-    use super::*;
-    use pol_identity::affine_labels;
-    use std::test::Fail;
-
-    #[test]
-    fn the_least_affine_table_of_five_values(rt: HostRuntime) -> Result<(), Fail> {
-        let alloc = rt.alloc();
-        let five = Domain::new(5).ok_or("five values")?;
-        let table = least_affine(alloc, &Language::new(alloc, five))?.ok_or("a table")?;
-        assert_eq!(rt; affine_labels(&table), Some([0, 1, 4, 3, 2]));
-        Ok(())
-    }
-}

@@ -25,6 +25,3 @@ pub use filter::{Filter, NoFilter};
 pub use pool::Pool;
 pub use problem::Problem;
 pub use solve::{least, least_wanted};
-
-#[cfg(test)]
-mod tests;

@@ -19,6 +19,3 @@ pub use laws::identity_laws;
 pub use maltsev::Maltsev;
 pub use near_unanimity::NearUnanimity;
 pub use semilattice::Semilattice;
-
-#[cfg(test)]
-mod tests;

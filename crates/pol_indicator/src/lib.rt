@@ -12,8 +12,3 @@ mod scope;
 
 pub use indicated::problem;
 pub use least::least_op;
-
-#[cfg(test)]
-mod semilattice_tests;
-#[cfg(test)]
-mod tests;

@@ -18,8 +18,3 @@ pub use complement::null_space;
 pub use elimination::{Elim, eliminate};
 pub use equation::Equation;
 pub use laws::{clash_laws, fault_laws};
-
-#[cfg(test)]
-mod combination_tests;
-#[cfg(test)]
-mod equation_tests;

@@ -14,6 +14,3 @@ pub use laws::{fault_laws, log_laws};
 pub use log::{Log, LogAnswer, Step};
 pub use nogood::Nogood;
 pub use trimming::trimmed;
-
-#[cfg(test)]
-mod tests;

@@ -14,6 +14,3 @@ pub use memory::{MemorySink, MemorySource};
 pub use reading::{TakeFault, read_all};
 pub use streams::{Failed, Sink, Source};
 pub use writing::{WriteFault, write_all};
-
-#[cfg(test)]
-mod tests;

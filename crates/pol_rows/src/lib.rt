@@ -8,6 +8,3 @@ mod signature;
 
 pub use laws::signature_laws;
 pub use rows::Rows;
-
-#[cfg(test)]
-mod tests;

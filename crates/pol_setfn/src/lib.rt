@@ -13,6 +13,3 @@ mod value_sets;
 pub use folding::fold;
 pub use laws::fold_laws;
 pub use least::least_setfn;
-
-#[cfg(test)]
-mod tests;

@@ -76,35 +76,3 @@ pub fn put_numbers(out: &mut Values, numbers: &[u32]) -> Result<(), NoMemory>
     }
     Ok(())
 }
-
-#[cfg(test)]
-mod tests {
-    use super::*;
-    use std::test::Fail;
-
-    #[test]
-    fn reads_one_to_nine_digits(rt: HostRuntime) {
-        let cases = [
-            (b"".as_slice(), None),
-            (b"0".as_slice(), Some(0)),
-            (b"007".as_slice(), Some(7)),
-            (b"999999999".as_slice(), Some(999_999_999)),
-            (b"0000000001".as_slice(), None),
-            (b"1a".as_slice(), None),
-            (b"-1".as_slice(), None),
-        ];
-        for (token, value) in cases {
-            assert_eq!(rt; number(token), value, "at {token:?}");
-        }
-    }
-
-    #[test]
-    fn prints_numbers_behind_spaces(rt: HostRuntime) -> Result<(), Fail> {
-        let mut out = Values::new(rt.alloc());
-        put_values(&mut out, &[0, 4, 255])?;
-        put_numbers(&mut out, &[15_625, 0, u32::MAX])?;
-        put_values(&mut out, &[])?;
-        assert_eq!(rt; out.as_slice(), b" 0 4 255 15625 0 4294967295".as_slice());
-        Ok(())
-    }
-}

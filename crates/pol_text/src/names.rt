@@ -22,23 +22,3 @@ fn is_name_byte(byte: u8) -> bool
 {
     byte.is_ascii_alphanumeric() || byte == b'_' || byte == b'-'
 }
-
-#[cfg(test)]
-mod tests {
-    use super::*;
-
-    #[test]
-    fn names_begin_with_a_letter_and_have_at_most_32_bytes(rt: HostRuntime) {
-        let cases = [
-            (b"".as_slice(), false),
-            (b"a".as_slice(), true),
-            (b"9a".as_slice(), false),
-            (b"a-b_c9".as_slice(), true),
-            (b"abcdefghijklmnopqrstuvwxyz012345".as_slice(), true),
-            (b"abcdefghijklmnopqrstuvwxyz0123456".as_slice(), false),
-        ];
-        for (token, is) in cases {
-            assert_eq!(rt; is_name(token), is, "at {token:?}");
-        }
-    }
-}

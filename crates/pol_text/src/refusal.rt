@@ -68,19 +68,3 @@ pub fn put_refusal(out: &mut Values, refusal: Refusal) -> Result<(), NoMemory>
     out.append(refusal.word.text())?;
     out.append(b"\n")
 }
-
-#[cfg(test)]
-mod tests {
-    use super::*;
-
-    #[test]
-    fn prints_the_line_and_the_word(rt: HostRuntime) {
-        let mut out = Values::new(rt.alloc());
-        let refusal = Refusal {
-            line: 3,
-            word: Word::BadLine,
-        };
-        assert_eq!(rt; put_refusal(&mut out, refusal), Ok(()));
-        assert_eq!(rt; out.as_slice(), b"refused 3 BadLine\n".as_slice());
-    }
-}

@@ -111,29 +111,3 @@ pub fn put_token(out: &mut Values, token: &[u8]) -> Result<(), NoMemory>
     out.append(b" ")?;
     out.append(token)
 }
-
-#[cfg(test)]
-mod tests {
-    use super::*;
-
-    const LINE: &[u8] = b" 7\t007  1234567890 12x 999999999 x -1";
-
-    const NUMBERS: [Option<Option<u32>>; 8] = [
-        Some(Some(7)),
-        Some(Some(7)),
-        Some(None),
-        Some(None),
-        Some(Some(999_999_999)),
-        Some(None),
-        Some(None),
-        None,
-    ];
-
-    #[test]
-    fn reads_the_number_of_each_token(rt: HostRuntime) {
-        let mut tokens = Tokens::new(LINE);
-        for number in NUMBERS {
-            assert_eq!(rt; tokens.next_number(), number);
-        }
-    }
-}

@@ -1,11 +1,12 @@
-use crate::{
+//! Reading and writing in full, in memory and over readers and writers that fail at a given call.
+use pol_outside::{
     Failed, MemorySink, MemorySource, ReaderSource, Source, TakeFault, WriteFault, WriterSink,
     read_all, write_all,
 };
 use std::io;
 use std::io::{BufWriter, Read, Write};
 
-// Moves at most two bytes a call. The call of this number, counted from 0, fails.
+/// Moves at most two bytes a call. The call of this number, counted from 0, fails.
 #[derive(Drop)]
 struct Slow<S> {
     stream: S,

@@ -1,7 +1,7 @@
 //! The least semilattice operation over each language of sets of three values, beside a plain enumeration.
-use crate::least_op;
 use pol_base::{Domain, Values};
 use pol_identity::Semilattice;
+use pol_indicator::least_op;
 use pol_relation::{Language, Relation};
 use std::alloc::Global;
 use std::process::Abort;

@@ -2,7 +2,7 @@ use Rattle.std.proofs.Common.{◌≡◌, ℕ, get_or, subst, arith, nat_eq}
 use Rattle.std.specs.Prelude.{IsTrue, IsBitSet}
 use Rattle.std.proofs.lemmas.Bool.Decides.{nat_tests}
 use Rattle.pol_base.proofs.BitLemmas.{single_set}
-use Rattle.pol_csp.proofs.tests.NotFirstFilter.fails.Goals as goal
+use Rattle.pol_tests_search.proofs.problems.NotFirstFilter.fails.Goals as goal
 
 pub returns-clause-none : goal.returns-clause-none
 returns-clause-none c = λ only xs w other.

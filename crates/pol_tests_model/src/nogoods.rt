@@ -1,7 +1,8 @@
+//! The log of a triangle of unequal values and its changes, and what trimming leaves of a log.
 ghost use Rattle.std.specs.Prelude.{◌≡◌, ◌+◌, ◌^◌, ◌≤◌, length, OnOk};
 
-use crate::{Log, LogFault, Nogood, Step, Why, check_log, trimmed};
 use pol_base::{Domain, NoMemory, Numbers};
+use pol_nogood::{Log, LogFault, Nogood, Step, Why, check_log, trimmed};
 use pol_relation::{Instance, Language, Relation};
 use std::alloc::Global;
 use std::mem::size_of;

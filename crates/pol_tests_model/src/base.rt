@@ -1,4 +1,5 @@
-use crate::{
+//! Domains and their cells, words of classes, lists, masks, and lists in their order.
+use pol_base::{
     ClassName, Domain, NoMemory, Numbers, Values, advance, cell_of, cells, class_of, digit,
     full_mask, has_value, lowest_value, value_mask, without,
 };

@@ -1,6 +1,7 @@
-use crate::Rows;
+//! Sizes of signatures and least pairs, by hand and by trying all pairs in their order.
 use pol_base::Domain;
 use pol_optable::OpTable;
+use pol_rows::Rows;
 use std::alloc::Global;
 use std::process::Abort;
 use std::test::Fail;

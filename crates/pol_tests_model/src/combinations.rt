@@ -1,5 +1,6 @@
-use crate::{CombFault, Combination, Part, check_combination};
-use pol_base::{Domain, NoMemory, Values};
+//! Changes of a combination of two sums modulo 3, each with its fault.
+use pol_base::{Domain, Values};
+use pol_modp::{CombFault, Combination, Part, check_combination};
 use pol_relation::{Instance, Language, Relation};
 use std::alloc::Global;
 use std::process::Abort;

@@ -1,9 +1,10 @@
+//! The least lists of problems of two cells, with a filter and without one, and of one cell.
 ghost use Rattle.std.specs.Prelude.{◌≡◌, ℕ, ◌<◌, length, IfOk};
 ghost use Rattle.pol_relation.specs.Relations.{relation_of};
 ghost use Rattle.pol_csp.specs.Problems.{FitsLanguage};
 
-use crate::{Filter, NoFilter, Problem, least};
 use pol_base::{Domain, Values, full_mask};
+use pol_csp::{Filter, NoFilter, Problem, least};
 use pol_relation::{Language, Relation};
 use std::alloc::Global;
 use std::process::Abort;

@@ -1,7 +1,8 @@
-use crate::{least_op, problem};
+//! The least tables of small languages, and majority tables beside a plain enumeration.
 use pol_base::{Domain, Values};
 use pol_csp::{NoFilter, least};
 use pol_identity::{Constant, Maltsev, NearUnanimity};
+use pol_indicator::{least_op, problem};
 use pol_relation::{Language, Relation};
 use std::alloc::Global;
 use std::process::Abort;

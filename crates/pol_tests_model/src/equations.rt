@@ -1,9 +1,10 @@
+//! Elimination beside all assignments, and the equations of rows beside all tuples.
 ghost use Rattle.std.specs.Prelude.{◌≤◌, IsTrue};
 ghost use Rattle.pol_base.specs.Tuples.{IsTuple};
 ghost use Rattle.pol_modp.specs.Equations.{IsEquation, IsSmallPrime};
 
-use crate::{Elim, Equation, eliminate, null_space};
 use pol_base::{NoMemory, Values};
+use pol_modp::{Elim, Equation, eliminate, null_space};
 use std::alloc::Global;
 use std::process::Abort;
 use std::test::Fail;

@@ -1,8 +1,9 @@
-use crate::{fold, least_setfn};
+//! The fold of a minimum, and the least set functions of small languages.
 use pol_base::Domain;
 use pol_identity::{Identity, Semilattice};
 use pol_optable::OpTable;
 use pol_relation::{Language, Relation};
+use pol_setfn::{fold, least_setfn};
 use std::test::Fail;
 
 #[test]

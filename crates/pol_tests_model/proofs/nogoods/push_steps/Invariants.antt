@@ -1,5 +1,5 @@
 use Rattle.std.proofs.Common.{◌≡◌, ◌+◌, length}
-use Rattle.pol_nogood.proofs.tests.push_steps.Given as goal
+use Rattle.pol_tests_model.proofs.nogoods.push_steps.Given as goal
 
 abbrev pub invariant-loop-by : goal.invariant-loop-by
 invariant-loop-by l = length l.log ≡ length l.fn.log + l.by-index

@@ -1,9 +1,10 @@
+//! Rules of single cells, tables with an identity and without, parts, and labels.
 ghost use Rattle.std.specs.Prelude.{ℕ, ◌≤◌};
 
-use crate::{
+use pol_base::{Domain, NoMemory, cells};
+use pol_identity::{
     Affine, CellRule, Constant, Identity, Maltsev, NearUnanimity, Semilattice, affine_labels,
 };
-use pol_base::{Domain, NoMemory, cells};
 use pol_optable::{OpTable, PartTable};
 use std::alloc::Global;
 use std::test::Fail;
