@@ -3,6 +3,6 @@ use Rattle.pol_base.specs.Names.{class_word}
 use Rattle.pol_report.proofs.PrintLemmas.{line_front_cut}
 use Rattle.pol_report.proofs.printing.put_counted.Goals as goal
 
-pub returns-in_err-put_answered : goal.returns-in_err-put_answered
-returns-in_err-put_answered c =
-    record { puts = line_front_cut c.from_residual.result _ _ (codes "instance") (c.args.name.now ∷ codes "no" ∷ class_word c.args.class ∷ []) (decimal c.args.lines ∷ []) c.from_residual.ensures.0 c.in_err-put_answered.ensures.puts }
+pub returns-in_err-put_answered-clause-puts : goal.returns-in_err-put_answered-clause-puts
+returns-in_err-put_answered-clause-puts g c =
+    line_front_cut c.from_residual.result _ _ (codes "instance") (c.args.name.now ∷ codes "no" ∷ class_word c.args.class ∷ []) (decimal c.args.lines ∷ []) c.from_residual.ensures.0 c.in_err-put_answered.ensures.puts

@@ -5,7 +5,7 @@ use Rattle.pol_report.specs.Texts.{instance_line, step_line}
 use Rattle.pol_report.proofs.PrintLemmas.{cut_first}
 use Rattle.pol_report.proofs.printing.put_no.Goals as goal
 
-pub returns-in_err-put_no_line : goal.returns-in_err-put_no_line
-returns-in_err-put_no_line c =
+pub returns-in_err-put_no_line-clause-puts : goal.returns-in_err-put_no_line-clause-puts
+returns-in_err-put_no_line-clause-puts g c =
     let front = rw c.len.ensures.steps at c.in_err-put_no_line.ensures.puts in
-    record { puts = cut_first c.from_residual.result _ _ (instance_line c.args.name.now (codes "no" ∷ class_word c.args.class ∷ decimal (length c.args.log.now) ∷ [])) (joined step_line c.args.log.now) _ c.from_residual.ensures.0 front refl }
+    cut_first c.from_residual.result _ _ (instance_line c.args.name.now (codes "no" ∷ class_word c.args.class ∷ decimal (length c.args.log.now) ∷ [])) (joined step_line c.args.log.now) _ c.from_residual.ensures.0 front refl

@@ -4,6 +4,6 @@ use Rattle.pol_text.specs.Texts.{spaced_texts}
 use Rattle.pol_report.proofs.PrintLemmas.{cut_first}
 use Rattle.pol_report.proofs.printing.put_no_line.Goals as goal
 
-pub returns-in_err-put_counted : goal.returns-in_err-put_counted
-returns-in_err-put_counted c =
-    record { puts = cut_first c.from_residual.result _ _ (codes "instance" ++ spaced_texts (c.args.name.now ∷ codes "no" ∷ class_word c.args.class ∷ decimal c.args.steps ∷ [])) (codes "\n") _ c.from_residual.ensures.0 c.in_err-put_counted.ensures.puts refl }
+pub returns-in_err-put_counted-clause-puts : goal.returns-in_err-put_counted-clause-puts
+returns-in_err-put_counted-clause-puts g c =
+    cut_first c.from_residual.result _ _ (codes "instance" ++ spaced_texts (c.args.name.now ∷ codes "no" ∷ class_word c.args.class ∷ decimal c.args.steps ∷ [])) (codes "\n") _ c.from_residual.ensures.0 c.in_err-put_counted.ensures.puts refl

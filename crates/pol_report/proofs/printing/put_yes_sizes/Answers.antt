@@ -4,6 +4,6 @@ use Rattle.pol_report.specs.Texts.{yes_item, sizes_line}
 use Rattle.pol_report.proofs.PrintLemmas.{cut_first}
 use Rattle.pol_report.proofs.printing.put_yes_sizes.Goals as goal
 
-pub returns-in_err-put_yes : goal.returns-in_err-put_yes
-returns-in_err-put_yes c =
-    record { puts = cut_first c.from_residual.result _ _ (yes_item c.args.name.now Maltsev c.args.values.now) (sizes_line c.args.sizes.now) _ c.from_residual.ensures.0 c.in_err-put_yes.ensures.puts refl }
+pub returns-in_err-put_yes-clause-puts : goal.returns-in_err-put_yes-clause-puts
+returns-in_err-put_yes-clause-puts g c =
+    cut_first c.from_residual.result _ _ (yes_item c.args.name.now Maltsev c.args.values.now) (sizes_line c.args.sizes.now) _ c.from_residual.ensures.0 c.in_err-put_yes.ensures.puts refl

@@ -3,6 +3,9 @@ use Rattle.pol_text.specs.Texts.{joined, spaced_texts}
 use Rattle.pol_report.specs.Texts.{pair_tokens}
 use Rattle.pol_report.proofs.step_lines.put_pairs.Given as goal
 
--- the pairs so far stand behind what was there
+-- the pairs so far stand behind what was there, and the text is the same
 abbrev pub invariant-loop-i : goal.invariant-loop-i
-invariant-loop-i l = l.out ≡ l.initial.out ++ joined (λ p. spaced_texts (pair_tokens p)) (take l.i l.nogood)
+invariant-loop-i g l = record {
+  so_far : g.T.Text.bytes l.out ≡ g.T.Text.bytes l.initial.out ++ joined (λ p. spaced_texts (pair_tokens p)) (take l.i l.nogood);
+  place : g.T.Text.place l.out ≡ g.T.Text.place l.initial.out;
+}

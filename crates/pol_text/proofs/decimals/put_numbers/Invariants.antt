@@ -2,6 +2,9 @@ use Rattle.std.proofs.Common.{◌≡◌, ◌++◌, take}
 use Rattle.pol_text.specs.Texts.{spaced}
 use Rattle.pol_text.proofs.decimals.put_numbers.Given as goal
 
--- those so far stand behind what was there
+-- those so far stand behind what was there, and the text is the same
 abbrev pub invariant-loop-number : goal.invariant-loop-number
-invariant-loop-number l = l.out ≡ l.initial.out ++ spaced (take l.number-index l.numbers)
+invariant-loop-number g l = record {
+  so_far : g.T.Text.bytes l.out ≡ g.T.Text.bytes l.initial.out ++ spaced (take l.number-index l.numbers);
+  place : g.T.Text.place l.out ≡ g.T.Text.place l.initial.out;
+}

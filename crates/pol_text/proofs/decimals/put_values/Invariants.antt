@@ -2,6 +2,9 @@ use Rattle.std.proofs.Common.{◌≡◌, ◌++◌, take}
 use Rattle.pol_text.specs.Texts.{spaced}
 use Rattle.pol_text.proofs.decimals.put_values.Given as goal
 
--- those so far stand behind what was there
+-- those so far stand behind what was there, and the text is the same
 abbrev pub invariant-loop-value : goal.invariant-loop-value
-invariant-loop-value l = l.out ≡ l.initial.out ++ spaced (take l.value-index l.values)
+invariant-loop-value g l = record {
+  so_far : g.T.Text.bytes l.out ≡ g.T.Text.bytes l.initial.out ++ spaced (take l.value-index l.values);
+  place : g.T.Text.place l.out ≡ g.T.Text.place l.initial.out;
+}
