@@ -26,4 +26,4 @@ returns-clause-puts g c =
     let coefs = rw (c.as_slice.ensures.items, spaced-texts part.coefs) at c.in_ok-put_values.ensures.puts in
     let sides = line_more _ _ _ (codes "part") (decimal part.c ∷ []) (decimal part.multiplier ∷ decimal part.right ∷ []) c.in_ok-put_constraint.ensures.puts c.in_ok-put_sides.ensures.puts in
     let line = line_more _ _ _ (codes "part") (decimal part.c ∷ decimal part.multiplier ∷ decimal part.right ∷ []) (map decimal part.coefs) sides coefs in
-    line_ended c.append.result _ _ _ _ line c.append.ensures.ok c.append.ensures.err
+    line_ended c.append.result _ _ _ _ line c.append.ensures.puts

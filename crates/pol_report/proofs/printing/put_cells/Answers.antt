@@ -17,4 +17,4 @@ pub returns-clause-puts : goal.returns-clause-puts
 returns-clause-puts g c =
     let cells = rw (spaced-texts c.args.cells.now) at c.in_ok-put_values.ensures.puts in
     let line = line_more _ _ _ (codes "class") (class_word c.args.class ∷ []) (map decimal c.args.cells.now) c.in_ok-put_class.ensures.puts cells in
-    line_ended c.append.result _ _ _ _ line c.append.ensures.ok c.append.ensures.err
+    line_ended c.append.result _ _ _ _ line c.append.ensures.puts

@@ -16,4 +16,4 @@ pub returns-clause-puts : goal.returns-clause-puts
 returns-clause-puts g c =
     let labels = rw (spaced-texts c.args.labels.now) at c.in_ok-put_values.ensures.puts in
     let line = line_more _ _ _ (codes "instance") (c.args.name.now ∷ codes "no" ∷ codes "affine" ∷ decimal c.args.parts ∷ []) (map decimal c.args.labels.now) c.in_ok-put_counted.ensures.puts labels in
-    line_ended c.append.result _ _ _ _ line c.append.ensures.ok c.append.ensures.err
+    line_ended c.append.result _ _ _ _ line c.append.ensures.puts

@@ -6,10 +6,10 @@ use Rattle.pol_report.proofs.printing.put_sizes.Goals as goal
 pub returns-in_err-put_numbers-clause-puts : goal.returns-in_err-put_numbers-clause-puts
 returns-in_err-put_numbers-clause-puts g c =
     let front = rw (spaced-texts c.args.sizes.now) at c.in_err-put_numbers.ensures.puts in
-    line_cut_last c.from_residual-in_err-put_numbers.result _ _ _ (codes "sizes") [] (map decimal c.args.sizes.now) (codes "\n") c.from_residual-in_err-put_numbers.ensures.0 c.in_ok-append.ensures.ok front
+    line_cut_last c.from_residual-in_err-put_numbers.result _ _ _ (codes "sizes") [] (map decimal c.args.sizes.now) (codes "\n") c.from_residual-in_err-put_numbers.ensures.0 c.in_ok-append.ensures.puts front
 
 pub returns-clause-puts : goal.returns-clause-puts
 returns-clause-puts g c =
     let sizes = rw (spaced-texts c.args.sizes.now) at c.in_ok-put_numbers.ensures.puts in
-    let line = line_more _ _ _ (codes "sizes") [] (map decimal c.args.sizes.now) c.in_ok-append.ensures.ok sizes in
-    line_ended c.append-2.result _ _ _ _ line c.append-2.ensures.ok c.append-2.ensures.err
+    let line = line_more _ _ _ (codes "sizes") [] (map decimal c.args.sizes.now) c.in_ok-append.ensures.puts sizes in
+    line_ended c.append-2.result _ _ _ _ line c.append-2.ensures.puts

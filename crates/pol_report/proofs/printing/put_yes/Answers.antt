@@ -17,4 +17,4 @@ pub returns-clause-puts : goal.returns-clause-puts
 returns-clause-puts g c =
     let values = rw (spaced-texts c.args.values.now) at c.in_ok-put_values.ensures.puts in
     let line = line_more _ _ _ (codes "instance") (c.args.name.now ∷ codes "yes" ∷ class_word c.args.class ∷ []) (map decimal c.args.values.now) c.in_ok-put_answered.ensures.puts values in
-    line_ended c.append.result _ _ _ _ line c.append.ensures.ok c.append.ensures.err
+    line_ended c.append.result _ _ _ _ line c.append.ensures.puts

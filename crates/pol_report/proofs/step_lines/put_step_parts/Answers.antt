@@ -22,4 +22,4 @@ returns-clause-puts g c =
     let references = rw c.as_slice.ensures.items at c.in_ok-put_references.ensures.puts in
     let nogood = line_more _ _ _ c.args.letter.now (decimal c.args.number ∷ []) (nogood_tokens c.args.nogood.now) c.in_ok-put_basis.ensures.puts c.in_ok-put_nogood.ensures.puts in
     let line = line_more _ _ _ c.args.letter.now (decimal c.args.number ∷ nogood_tokens c.args.nogood.now) (reference_tokens c.args.refs.now) nogood references in
-    line_ended c.append.result _ _ _ _ line c.append.ensures.ok c.append.ensures.err
+    line_ended c.append.result _ _ _ _ line c.append.ensures.puts
