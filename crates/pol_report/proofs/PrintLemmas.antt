@@ -36,6 +36,16 @@ pub line_more : (old mid new : Option (List ℕ)) (keyword : List ℕ) (xs ys : 
 line_more old mid new keyword xs ys stands more =
     subst (Appends old new) (append_assoc keyword (spaced_texts xs) (spaced_texts ys) ∙ ap (λ bytes. keyword ++ bytes) (sym (joined-append (λ text. codes " " ++ text) xs ys))) (Appends-trans old mid new (keyword ++ spaced_texts xs) (spaced_texts ys) stands more)
 
+-- one token more stands behind those so far
+pub line_one_more : (old mid new : Option (List ℕ)) (keyword : List ℕ) (xs : List (List ℕ)) (token : List ℕ) → Appends old mid (keyword ++ spaced_texts xs) → Appends mid new (codes " " ++ token) → Appends old new (keyword ++ spaced_texts (xs ++ token ∷ []))
+line_one_more old mid new keyword xs token stands more = line_more old mid new keyword xs (token ∷ []) stands (subst (Appends mid new) (one_token token) more)
+
+-- the last call puts one token more
+pub line_token : {A E : Type 0} (r : Result A E) (old mid new : Option (List ℕ)) (keyword : List ℕ) (xs : List (List ℕ)) (token : List ℕ) → Appends old mid (keyword ++ spaced_texts xs) → PutsIn r mid new (codes " " ++ token) → PutsIn r old new (keyword ++ spaced_texts (xs ++ token ∷ []))
+line_token r old mid new keyword xs token stands puts =
+    let whole = append_assoc keyword (spaced_texts xs) (spaced_texts (token ∷ [])) ∙ ap (λ bytes. keyword ++ bytes) (sym (joined-append (λ text. codes " " ++ text) xs (token ∷ []))) in
+    last_call r old mid new (keyword ++ spaced_texts xs) (spaced_texts (token ∷ [])) _ stands (subst (PutsIn r mid new) (one_token token) puts) whole
+
 -- further tokens were cut off behind those so far
 pub line_cut : {A E : Type 0} (r : Result A E) (old mid new : Option (List ℕ)) (keyword : List ℕ) (xs ys zs : List (List ℕ)) (last : List ℕ) → IsErr r → Appends old mid (keyword ++ spaced_texts xs) → GrowsByFrontIn mid new (spaced_texts ys) → PutsIn r old new (keyword ++ spaced_texts (xs ++ (ys ++ zs)) ++ last)
 line_cut r old mid new keyword xs ys zs last failed stands front =
