@@ -8,3 +8,4 @@ pub mod Openings
 pub mod Grammar
 pub mod Reading
 pub mod Pieces
+pub mod Sending
