@@ -1,9 +1,9 @@
 -- Outputs that are due, and what stands written where a run that delivers one ends.
-use Rattle.std.proofs.Common.{◌≡◌, ℕ, ◌+◌, ◌≤◌, List, ◌++◌, Result, Ok, IfOk, refl, sym, ◌∙◌, subst, arith}
-use Rattle.std.specs.Prelude.{Option, ◌⊎◌, inl, inr}
+use Rattle.std.proofs.Common.{◌≡◌, ℕ, ◌+◌, ◌≤◌, List, ◌++◌, Result, Ok, IfOk, inl, inr, refl, sym, ◌∙◌, subst, arith}
+use Rattle.std.specs.Prelude.{Option, ◌⊎◌}
 use Rattle.std.specs.Io.KnownBytes.{Appends, IsAtEnd}
 use Rattle.std.proofs.lemmas.Result.{IfOk-weaker}
-use Rattle.pol_outside.specs.Contents.{Takes, TakesAtMost}
+use Rattle.pol_outside.specs.Contents.{Takes, TakesAtMost, AppendsFront}
 use Rattle.pol_outside.specs.Faults.{Rose}
 use Rattle.pol_report.specs.declared.item.Item.{Item}
 use Rattle.pol_lang.specs.Limits.{most_bytes}
@@ -72,25 +72,21 @@ taken_exactly old new n (bytes, consumed, many) = (bytes, consumed, omega (arith
 
 -- ---- a run that delivers an output
 
-report_front : (words : List (List ℕ)) (bytes : List ℕ) (file : FileView) (left old new : Option (List ℕ)) → IsDueReport words bytes file → (is : IsOutputFor words left (Report file)) → AppendsReportFront file old new → WritesFront words left old new
-report_front words bytes file left old new outer is front = of_text front.text front.is front.appended
-  where
-    found = is.is.found
-    of_text : (text : List ℕ) → IsBegunReport file text ⊎ IsReport file text → Rattle.pol_outside.specs.Contents.AppendsFront old new text → WritesFront words left old new
-    of_text text (inl first) (some, rest, split, appended) = record {
-      bytes = is.bytes;
-      front = some;
-      told = is.told;
-      is_front = begun is.is.asks found is.is.alone text rest (subst (λ f. IsBegunReport f text) is.is.file_is first) split;
-      appended = appended;
-    }
-    of_text text (inr report) (some, rest, split, appended) = record {
-      bytes = is.bytes;
-      front = some;
-      told = is.told;
-      is_front = due text rest ended.Done (reported is.is.asks found is.is.alone (subst (λ f. IsReport f text) is.is.file_is report) refl) split;
-      appended = appended;
-    }
+report_front : (words : List (List ℕ)) (left old new : Option (List ℕ)) (file : FileView) (text : List ℕ) → IsOutputFor words left (Report file) → IsBegunReport file text ⊎ IsReport file text → AppendsFront old new text → WritesFront words left old new
+report_front words left old new file text is (inl first) (some, rest, split, appended) = record {
+  bytes = is.bytes;
+  front = some;
+  told = is.told;
+  is_front = begun is.is.asks is.is.found is.is.alone text rest (subst (λ f. IsBegunReport f text) is.is.file_is first) split;
+  appended = appended;
+}
+report_front words left old new file text is (inr report) (some, rest, split, appended) = record {
+  bytes = is.bytes;
+  front = some;
+  told = is.told;
+  is_front = due text rest ended.Done (reported is.is.asks is.is.found is.is.alone (subst (λ f. IsReport f text) is.is.file_is report) refl) split;
+  appended = appended;
+}
 
 -- what is due was written
 pub deliver-due : (words : List (List ℕ)) (left old new : Option (List ℕ)) (output : Output) (result : Ended) (before after : ℕ) → IsOutputFor words left output → Delivers output result old new before after → IsAnswer result → WritesDue words left old new result
@@ -110,7 +106,7 @@ pub deliver-fault : (words : List (List ℕ)) (left old new : Option (List ℕ))
 deliver-fault words left old new (Text text wanted) result before after is delivers fault =
     writes-front words left old new text wanted result before after (record { bytes = is.bytes; told = is.told; due = is.is.due }) is.is.answer delivers fault
 deliver-fault words left old new (Report file) result before after is (whole same report calm) fault = cc (same, fault)
-deliver-fault words left old new (Report file) result before after is (cut_off same front rose) fault = report_front words is.bytes file left old new is.is is front
+deliver-fault words left old new (Report file) result before after is (cut_off same front rose) fault = report_front words left old new file front.text is front.is front.appended
 deliver-fault words left old new (Report file) result before after is (out_of_memory same front calm) fault = cc (same, fault)
 
 pub deliver-memory : (words : List (List ℕ)) (left old new : Option (List ℕ)) (output : Output) (result : Ended) (before after : ℕ) → IsOutputFor words left output → Delivers output result old new before after → result ≡ ended.NoMemory → WritesFront words left old new
@@ -118,7 +114,7 @@ deliver-memory words left old new (Text text wanted) result before after is (Wri
 deliver-memory words left old new (Text text wanted) result before after is (Writes.cut_off same front rose) memory = cc (same, memory)
 deliver-memory words left old new (Report file) result before after is (whole same report calm) memory = cc (same, memory)
 deliver-memory words left old new (Report file) result before after is (cut_off same front rose) memory = cc (same, memory)
-deliver-memory words left old new (Report file) result before after is (out_of_memory same front calm) memory = report_front words is.bytes file left old new is.is is front
+deliver-memory words left old new (Report file) result before after is (out_of_memory same front calm) memory = report_front words left old new file front.text is front.is front.appended
 
 -- memory ran out behind the end of the input
 pub deliver-memory-late : (words : List (List ℕ)) (left now old new : Option (List ℕ)) (output : Output) (result : Ended) (before after : ℕ) → IsOutputFor words left output → OutputHasRead output left now → Delivers output result old new before after → result ≡ ended.NoMemory → IsAtEnd now

@@ -101,7 +101,7 @@ fn write<O: Sink>(sink: &mut O, text: &[u8], ended: Ended) -> Ended
 }
 
 /// What is written for an input.
-#[derive(Debug, Drop)]
+#[derive(Drop)]
 enum Output {
     /// A text that was made, and how a run ends that writes it.
     Text {

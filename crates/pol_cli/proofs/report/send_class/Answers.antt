@@ -10,8 +10,8 @@ use Rattle.pol_cli.proofs.report.send_class.Goals as goal
 pub returns-in_err-find_line-clause-front : goal.returns-in_err-find_line-clause-front
 returns-in_err-find_line-clause-front g c = err_of c.from_residual.result (items_nothing c.args.lang.now (Subject.OfClass c.args.class ∷ []) _)
 
-pub returns-in_err-class_item-clause-front : goal.returns-in_err-class_item-clause-front
-returns-in_err-class_item-clause-front g c = err_of c.from_residual-in_err-class_item.result (items_nothing c.args.lang.now (Subject.OfClass c.args.class ∷ []) _)
+pub returns-in_err-item-clause-front : goal.returns-in_err-item-clause-front
+returns-in_err-item-clause-front g c = err_of c.from_residual-in_err-item.result (items_nothing c.args.lang.now (Subject.OfClass c.args.class ∷ []) _)
 
 pub send_item-requires : goal.send_item-requires
 send_item-requires g c =

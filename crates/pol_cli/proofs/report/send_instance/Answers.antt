@@ -5,8 +5,8 @@ use Rattle.pol_cli.proofs.SendLemmas.{err_of, items_nothing, items_one, items_on
 use Rattle.pol_cli.proofs.report.send_instance.Goals as goal
 
 -- memory ran out before the item
-pub returns-in_err-instance_item-clause-front : goal.returns-in_err-instance_item-clause-front
-returns-in_err-instance_item-clause-front g c = err_of c.from_residual.result (items_nothing c.args.lang.now (Subject.OfInstance c.args.inst.now ∷ []) _)
+pub returns-in_err-item-clause-front : goal.returns-in_err-item-clause-front
+returns-in_err-item-clause-front g c = err_of c.from_residual.result (items_nothing c.args.lang.now (Subject.OfInstance c.args.inst.now ∷ []) _)
 
 pub send_item-requires : goal.send_item-requires
 send_item-requires g c = record {

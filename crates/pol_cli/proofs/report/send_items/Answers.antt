@@ -5,10 +5,10 @@ use Rattle.pol_cli.proofs.SendLemmas.{err_of, items_front_more, items_sent, item
 use Rattle.pol_cli.proofs.report.send_items.Goals as goal
 
 -- the items of the classes were cut off
-pub returns-in_err-send_classes-clause-front : goal.returns-in_err-send_classes-clause-front
-returns-in_err-send_classes-clause-front g c =
+pub returns-in_err-classes-clause-front : goal.returns-in_err-classes-clause-front
+returns-in_err-classes-clause-front g c =
     let file = c.args.file.now in
-    err_of c.from_residual.result (items_front_more file.language (map Subject.OfClass all_classes) (map Subject.OfInstance file.instances) _ _ c.in_err-send_classes.ensures.front)
+    err_of c.from_residual.result (items_front_more file.language (map Subject.OfClass all_classes) (map Subject.OfInstance file.instances) _ _ c.in_err-classes.ensures.front)
 
 pub returns-clause-whole : goal.returns-clause-whole
 returns-clause-whole g c =

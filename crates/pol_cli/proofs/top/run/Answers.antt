@@ -1,4 +1,4 @@
-use Rattle.std.specs.Prelude.{inl}
+use Rattle.std.proofs.Common.{inl}
 use Rattle.pol_cli.specs.Runs.{texts_of}
 use Rattle.pol_cli.proofs.RunLemmas.{due-usage, due-summary, WritesFront-nothing, writes-due, writes-front}
 use Rattle.pol_cli.proofs.OutputLemmas.{output-asked, deliver-due, deliver-read, deliver-no-read-fault, deliver-rose, deliver-fault, deliver-memory, deliver-memory-late, deliver-calm, deliver-complete}
@@ -68,14 +68,14 @@ returns-in-Ok-clause-complete g c =
 pub returns-in-Ok-summary-clause-due : goal.returns-in-Ok-summary-clause-due
 returns-in-Ok-summary-clause-due g c =
     let asks = rw c.in-Some-Gen.field-0-is at c.in-Some-Gen.ensures.known in
-    let due = due-summary (texts_of c.args.words.now) (g.S.Source.left c.args.source.now) _ _ _ asks c.as_slice-in-Ok-summary.ensures.items c.in-Ok-summary.ensures.summary in
-    writes-due _ _ _ _ _ _ _ _ _ due c.write-in-Ok-summary.ensures.writes
+    let due = due-summary (texts_of c.args.words.now) (g.S.Source.left c.args.source.now) _ _ _ asks c.as_slice.ensures.items c.in-Ok-summary.ensures.summary in
+    writes-due _ _ _ _ _ _ _ _ _ due c.write.ensures.writes
 
 pub returns-in-Ok-summary-clause-write_fault_front : goal.returns-in-Ok-summary-clause-write_fault_front
 returns-in-Ok-summary-clause-write_fault_front g c =
     let asks = rw c.in-Some-Gen.field-0-is at c.in-Some-Gen.ensures.known in
-    let due = due-summary (texts_of c.args.words.now) (g.S.Source.left c.args.source.now) _ _ _ asks c.as_slice-in-Ok-summary.ensures.items c.in-Ok-summary.ensures.summary in
-    writes-front _ _ _ _ _ _ _ _ _ due tt c.write-in-Ok-summary.ensures.writes
+    let due = due-summary (texts_of c.args.words.now) (g.S.Source.left c.args.source.now) _ _ _ asks c.as_slice.ensures.items c.in-Ok-summary.ensures.summary in
+    writes-front _ _ _ _ _ _ _ _ _ due tt c.write.ensures.writes
 
 -- memory ran out before anything was written
 pub returns-in-Err-NoMemory-clause-no_memory_front : goal.returns-in-Err-NoMemory-clause-no_memory_front
