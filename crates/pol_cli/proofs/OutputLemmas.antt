@@ -1,7 +1,7 @@
 -- Outputs that are due, and what stands written where a run that delivers one ends.
-use Rattle.std.proofs.Common.{◌≡◌, ℕ, ◌+◌, ◌≤◌, List, ◌++◌, Result, Ok, IfOk, inl, inr, refl, sym, ◌∙◌, subst, arith}
+use Rattle.std.proofs.Common.{◌≡◌, ℕ, ◌+◌, ◌≤◌, List, Result, Ok, IfOk, inl, inr, refl, sym, ◌∙◌, subst, arith}
 use Rattle.std.specs.Prelude.{Option, ◌⊎◌}
-use Rattle.std.specs.Io.KnownBytes.{Appends, IsAtEnd}
+use Rattle.std.specs.Io.KnownBytes.{IsAtEnd}
 use Rattle.std.proofs.lemmas.Result.{IfOk-weaker}
 use Rattle.pol_outside.specs.Contents.{Takes, TakesAtMost, AppendsFront}
 use Rattle.pol_outside.specs.Faults.{Rose}
@@ -9,13 +9,13 @@ use Rattle.pol_report.specs.declared.item.Item.{Item}
 use Rattle.pol_lang.specs.Limits.{most_bytes}
 use Rattle.pol_lang.specs.Files.{FileView, Parsed}
 use Rattle.pol_cli.specs.Checks.{IsChecked}
-use Rattle.pol_cli.specs.Reports.{IsReport, IsBegunReport, AppendsReport, AppendsReportFront}
-use Rattle.pol_cli.specs.Due.{IsDue, Begin, report_words, check_words, items_behind}
+use Rattle.pol_cli.specs.Reports.{IsReport, IsBegunReport}
+use Rattle.pol_cli.specs.Due.{IsDue, Begin, check_words, items_behind}
 use Rattle.pol_cli.specs.Due.IsDue.{reported, checked}
 use Rattle.pol_cli.specs.Due.IsFront.{due, begun}
-use Rattle.pol_cli.specs.Runs.{IsAnswer, IsDueFor, NotTooLong, HasRead, Writes, WritesDue, WritesFront, Reports}
+use Rattle.pol_cli.specs.Runs.{IsAnswer, IsDueFor, NotTooLong, HasRead, Writes, WritesDue, WritesFront}
 use Rattle.pol_cli.specs.Runs.Reports.{whole, cut_off, out_of_memory}
-use Rattle.pol_cli.specs.Outputs.{IsDueReport, IsOutput, IsOutputFor, IsTextOf, OutputNotTooLong, OutputHasRead, Delivers}
+use Rattle.pol_cli.specs.Outputs.{IsOutput, IsOutputFor, IsTextOf, OutputNotTooLong, OutputHasRead, Delivers}
 use Rattle.pol_cli.specs.declared.ended.Ended.{Ended}
 use Rattle.pol_cli.specs.declared.ended.Ended.TheVariants as ended
 use Rattle.pol_cli.specs.declared.top.Output.{Output}

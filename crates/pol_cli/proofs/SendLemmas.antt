@@ -1,6 +1,6 @@
 -- Items that are sent one behind another, and what stands where a report was cut off.
 use Rattle.std.proofs.Common.{◌≡◌, ℕ, ◌+◌, ◌<◌, ◌≤◌, List, [], ◌∷◌, ◌++◌, length, map, take, drop, get_or, Result, Ok, Err, inl, inr, refl, sym, ap, ◌∙◌, subst, append_assoc, append-nil}
-use Rattle.std.specs.Prelude.{Option, OnOk, OnErr, ◌⊎◌}
+use Rattle.std.specs.Prelude.{Option, OnOk, OnErr}
 use Rattle.std.specs.List.{AllZip}
 use Rattle.std.specs.Io.KnownBytes.{Appends}
 use Rattle.std.proofs.KnownBytes.{Appends-nil, Appends-trans}
@@ -12,7 +12,7 @@ use Rattle.pol_relation.specs.Relations.{LanguageView}
 use Rattle.pol_report.specs.declared.item.Item.{Item}
 use Rattle.pol_report.specs.Texts.{head_line, last_line, item_text}
 use Rattle.pol_lang.specs.Files.{FileView}
-use Rattle.pol_cli.specs.Reports.{Subject, subjects, IsItem, HasItems, IsReport, IsBegunReport, AppendsItems, AppendsItemsFront, AppendsReport, AppendsReportFront}
+use Rattle.pol_cli.specs.Reports.{Subject, subjects, IsItem, IsReport, AppendsItems, AppendsItemsFront, AppendsReport, AppendsReportFront}
 
 -- right items of two lists of subjects
 AllZip-behind : {A B : Type 0} (R : A → B → Type 0) (xs zs : List A) (ys ws : List B) → AllZip R xs ys → AllZip R zs ws → AllZip R (xs ++ zs) (ys ++ ws)

@@ -104,14 +104,9 @@ fn write<O: Sink>(sink: &mut O, text: &[u8], ended: Ended) -> Ended
 #[derive(Drop)]
 enum Output {
     /// A text that was made, and how a run ends that writes it.
-    Text {
-        text: Values,
-        ended: Ended,
-    },
+    Text { text: Values, ended: Ended },
     /// The report of the file, which is made while it is written.
-    Report {
-        file: File,
-    },
+    Report { file: File },
 }
 
 /// Writes the output.

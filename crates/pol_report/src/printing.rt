@@ -147,7 +147,12 @@ fn put_answered<T: Text>(
 }
 
 /// Appends the line of a solution.
-fn put_yes<T: Text>(out: &mut T, name: &[u8], class: ClassName, values: &[u8]) -> Result<(), T::Fault>
+fn put_yes<T: Text>(
+    out: &mut T,
+    name: &[u8],
+    class: ClassName,
+    values: &[u8],
+) -> Result<(), T::Fault>
     ensures puts { PutsIn result (T.bytes out.old) (T.bytes out.new) (yes_item name.now class values.now) }
     ensures place { T.place out.new ≡ T.place out.old }
     ensures sent { T.sent out.old ≤ T.sent out.new }
@@ -172,7 +177,12 @@ fn put_no<T: Text>(out: &mut T, name: &[u8], class: ClassName, log: &Log) -> Res
 }
 
 /// Appends the line of a No, with the number of the steps of its log.
-fn put_no_line<T: Text>(out: &mut T, name: &[u8], class: ClassName, steps: u32) -> Result<(), T::Fault>
+fn put_no_line<T: Text>(
+    out: &mut T,
+    name: &[u8],
+    class: ClassName,
+    steps: u32,
+) -> Result<(), T::Fault>
     ensures puts { PutsIn result (T.bytes out.old) (T.bytes out.new)
         (instance_line name.now (codes "no" ∷ class_word class ∷ decimal steps ∷ [])) }
     ensures place { T.place out.new ≡ T.place out.old }
@@ -197,7 +207,12 @@ fn put_no_sum<T: Text>(out: &mut T, name: &[u8], combination: &Combination) -> R
 }
 
 /// Appends the line of a No, with the number of the parts of its combination and the labels.
-fn put_no_sum_line<T: Text>(out: &mut T, name: &[u8], parts: u32, labels: &[u8]) -> Result<(), T::Fault>
+fn put_no_sum_line<T: Text>(
+    out: &mut T,
+    name: &[u8],
+    parts: u32,
+    labels: &[u8],
+) -> Result<(), T::Fault>
     ensures puts { PutsIn result (T.bytes out.old) (T.bytes out.new)
         (instance_line name.now (codes "no" ∷ class_word Affine ∷ decimal parts ∷ map decimal labels.now)) }
     ensures place { T.place out.new ≡ T.place out.old }
@@ -211,7 +226,12 @@ fn put_no_sum_line<T: Text>(out: &mut T, name: &[u8], parts: u32, labels: &[u8])
 }
 
 /// Appends `instance`, the name, `no`, the class, and how many lines show it.
-fn put_counted<T: Text>(out: &mut T, name: &[u8], class: ClassName, lines: u32) -> Result<(), T::Fault>
+fn put_counted<T: Text>(
+    out: &mut T,
+    name: &[u8],
+    class: ClassName,
+    lines: u32,
+) -> Result<(), T::Fault>
     ensures puts { PutsIn result (T.bytes out.old) (T.bytes out.new)
         (codes "instance" ++ spaced_texts (name.now ∷ codes "no" ∷ class_word class ∷ decimal lines ∷ [])) }
     ensures place { T.place out.new ≡ T.place out.old }

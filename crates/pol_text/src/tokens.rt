@@ -5,8 +5,8 @@ ghost use Rattle.std.specs.List.{position_or_len};
 ghost use Rattle.pol_text.specs.Lines.{tokens_of, is_blank, begins_solid, number_of};
 ghost use Rattle.pol_text.specs.Texts.{PutsIn};
 
-use crate::decimals::{MOST_DIGITS, leading_number};
 use crate::Text;
+use crate::decimals::{MOST_DIGITS, leading_number};
 use std::marker::Model;
 
 /// The tokens of a line, from left to right.

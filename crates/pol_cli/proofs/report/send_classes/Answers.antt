@@ -1,9 +1,9 @@
-use Rattle.std.proofs.Common.{[], ◌∷◌, ◌∙◌, get_or, subst}
+use Rattle.std.proofs.Common.{◌∙◌, get_or}
 use Rattle.pol_base.specs.declared.class_name.ClassName.TheVariants.{Constant}
 use Rattle.pol_optable.specs.ClassLines.{all_classes}
-use Rattle.pol_classify.proofs.FoundLemmas.{found_before, found_behind, all_found}
-use Rattle.pol_cli.specs.Reports.{Subject, AppendsItems, AppendsItemsFront}
-use Rattle.pol_cli.proofs.SendLemmas.{err_of, items_none, one_sent, one_cut, all_sent}
+use Rattle.pol_classify.proofs.FoundLemmas.{found_behind}
+use Rattle.pol_cli.specs.Reports.{Subject}
+use Rattle.pol_cli.proofs.SendLemmas.{err_of, one_sent, one_cut}
 use Rattle.pol_cli.proofs.report.send_classes.Goals as goal
 
 -- the item of one more class

@@ -1,6 +1,6 @@
-use Rattle.std.proofs.Common.{[], ◌∷◌, ◌∙◌, subst, arith}
+use Rattle.std.proofs.Common.{◌∙◌, arith}
 use Rattle.pol_lang.specs.Files.{no_instance}
-use Rattle.pol_cli.specs.Reports.{Subject, AppendsItems, AppendsItemsFront}
+use Rattle.pol_cli.specs.Reports.{Subject}
 use Rattle.pol_cli.proofs.SendLemmas.{err_of, one_sent, one_cut, all_sent}
 use Rattle.pol_cli.proofs.report.send_instances.Goals as goal
 

@@ -1,5 +1,5 @@
 use Rattle.std.proofs.Common.{refl}
-use Rattle.pol_cli.specs.Runs.Reports.{whole, cut_off, out_of_memory}
+use Rattle.pol_cli.specs.Runs.Reports.{whole}
 use Rattle.pol_cli.proofs.top.report.Goals as goal
 
 pub returns-in-Ok : goal.returns-in-Ok

@@ -12,4 +12,4 @@ pub returns-clause-sends : goal.returns-clause-sends
 returns-clause-sends g c =
     let longer : known_length (g.O.Sink.written c.args.piece.now.sink.now) ≤ known_length (g.O.Sink.written c.flush.new.self.sink.now) = omega (arith, c.in_ok-put_last.ensures.sent, c.flush.ensures.sent) in
     sends_all c.flush.result _ _ _ _ _ _ _ last_line c.requires.empty longer c.in_ok-put_last.ensures.puts c.flush.ensures.bytes c.flush.ensures.empty
-        (rw c.in_ok-put_last.ensures.calm at c.flush.ensures.calm) (rw c.in_ok-put_last.ensures.calm at c.flush.ensures.fault)
+    (rw c.in_ok-put_last.ensures.calm at c.flush.ensures.calm) (rw c.in_ok-put_last.ensures.calm at c.flush.ensures.fault)

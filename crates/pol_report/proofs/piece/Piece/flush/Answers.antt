@@ -1,4 +1,4 @@
-use Rattle.std.proofs.Common.{◌≤◌, ◌∙◌, arith}
+use Rattle.std.proofs.Common.{◌∙◌, arith}
 use Rattle.std.proofs.KnownBytes.{Keeps-trans}
 use Rattle.pol_report.proofs.PieceLemmas.{known_length-grown, piece_bytes-moved}
 use Rattle.pol_report.proofs.piece.Piece.flush.Goals as goal

@@ -8,7 +8,7 @@ abbrev pub invariant-loop-self : goal.invariant-loop-self
 invariant-loop-self g l = record {
   place : l.self.sink.ghost_name ≡ l.initial.self.sink.ghost_name;
   bytes : Keeps (piece_bytes (g.O.Sink.written l.initial.self.sink.now) l.initial.self.from l.initial.self.held.items)
-    (piece_bytes (g.O.Sink.written l.self.sink.now) l.self.from l.self.held.items);
+      (piece_bytes (g.O.Sink.written l.self.sink.now) l.self.from l.self.held.items);
   sent : known_length (g.O.Sink.written l.initial.self.sink.now) ≤ known_length (g.O.Sink.written l.self.sink.now);
   calm : g.O.Sink.faults l.self.sink.now ≡ g.O.Sink.faults l.initial.self.sink.now;
 }
