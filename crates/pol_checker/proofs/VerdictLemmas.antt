@@ -1,5 +1,5 @@
 -- Verdicts: one of an item, and what is accepted.
-use Rattle.std.proofs.Common.{◌≡◌, ◌⊎◌, ℕ, ◌<◌, ◌≤◌, ◌^◌, ◌-◌, Some, List, length, map, Contains, refl, sym, ap, ◌∙◌, subst, inl, inr, arith}
+use Rattle.std.proofs.Common.{◌≡◌, ◌⊎◌, ℕ, ◌<◌, ◌≤◌, ◌^◌, ◌-◌, Some, List, length, Contains, refl, sym, ap, ◌∙◌, subst, inl, inr, arith}
 use Rattle.std.proofs.lemmas.List.{length-map, get_or-map}
 use Rattle.std.specs.Prelude.{◌↔◌}
 use Rattle.std.proofs.lemmas.Option.{none-some, same_Some}
@@ -29,7 +29,7 @@ use Rattle.pol_checker.specs.declared.verdict.Cause.{Cause}
 use Rattle.pol_checker.specs.declared.verdict.Cause.TheVariants.{Unknown, Size, Identity, Breaks, Assignment, Constraint, BadLog, BadSum}
 use Rattle.pol_checker.specs.declared.verdict.Verdict.{Verdict}
 use Rattle.pol_checker.specs.declared.verdict.Verdict.TheVariants.{Accepted, Unchecked, Rejected}
-use Rattle.pol_checker.specs.Verdicts.{IsJudged, IsFirstWithout, IsTableFault, IsAssignmentFault, IsLogFault, IsSumFault, IsOperationVerdict, IsSetVerdict, IsTableVerdict, IsSolutionVerdict, IsLogVerdict, IsSumVerdict, IsNoVerdict, HasNamed, IsAnswerVerdict, IsVerdict}
+use Rattle.pol_checker.specs.Verdicts.{IsJudged, IsTableFault, IsAssignmentFault, IsLogFault, IsSumFault, IsOperationVerdict, IsSetVerdict, IsTableVerdict, IsSolutionVerdict, IsLogVerdict, IsSumVerdict, IsNoVerdict, HasNamed, IsAnswerVerdict, IsVerdict}
 use Rattle.pol_checker.specs.Verdicts.IsAnswerVerdict.{unknown, named}
 use Rattle.pol_checker.specs.Laws.{answered}
 use Rattle.pol_checker.proofs.FaultLemmas.{table_fault_one, assignment_fault_one, log_fault_one, sum_fault_one}

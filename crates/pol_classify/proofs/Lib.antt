@@ -3,3 +3,4 @@ pub mod LeastLemmas
 pub mod AffineLemmas
 pub mod CompositionLemmas
 pub mod SetTables
+pub mod FoundLemmas

@@ -1,1 +1,2 @@
 pub mod AffineTables
+pub mod Found

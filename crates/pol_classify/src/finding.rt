@@ -1,16 +1,19 @@
-ghost use Rattle.std.specs.Prelude.{◌≤◌, false, option_map, IfOk};
+ghost use Rattle.std.specs.Prelude.{ℕ, ◌≤◌, ◌+◌, false, option_map, OnOk, IfOk};
+ghost use Rattle.pol_base.specs.declared.class_name.ClassName.{ClassName};
 ghost use Rattle.pol_base.specs.Least.{AnswersLeast};
+ghost use Rattle.pol_relation.specs.Relations.{LanguageView};
 ghost use Rattle.pol_relation.specs.Weights.{weight_of, subset_weight_of, most_weight};
 ghost use Rattle.pol_optable.specs.Identities.{IsConstant, IsSemilattice, IsNearUnanimity, IsMaltsev};
 ghost use Rattle.pol_optable.specs.ClassLines.{IsTable};
-ghost use Rattle.pol_optable.specs.Choices.{AreLines, IsNu4Line};
+ghost use Rattle.pol_optable.specs.Choices.{AreLines, HasTable, IsNu4Line};
 ghost use Rattle.pol_setfn.specs.Sought.{IsSought};
+ghost use Rattle.pol_classify.specs.Found.{AreFound, place_of};
 
 use crate::affine::least_affine;
-use pol_base::NoMemory;
+use pol_base::{ClassName, NoMemory};
 use pol_identity::{Constant, Maltsev, NearUnanimity, Semilattice};
 use pol_indicator::least_op;
-use pol_optable::{Classes, Nu4, OpTable, SetFn};
+use pol_optable::{CLASSES, Classes, Nu4, OpTable, SetFn};
 use pol_relation::Language;
 use pol_setfn::least_setfn;
 use std::alloc::Global;
@@ -25,20 +28,68 @@ pub fn classify(alloc: Global, lang: &Language) -> Result<Classes, NoMemory>
     requires few_sets { subset_weight_of lang.now.domain lang.now.relations ≤ most_weight }
     ensures lines { IfOk result (AreLines lang.now) }
 {
+    let mut classes = nothing_found();
+    for class in CLASSES {
+        find_line(alloc, lang, class, &mut classes)?;
+    }
+    Ok(classes)
+}
+
+/// The classes before the first search: a line was found of none of them, and none has a table.
+pub fn nothing_found() -> Classes
+    ensures found { (lang : LanguageView) → AreFound lang 0 result }
+    ensures none { (class : ClassName) → ¬ HasTable result class }
+{
+    Classes {
+        constant: None,
+        semilattice: None,
+        setfn: None,
+        majority: None,
+        nu4: Nu4::Absent,
+        affine: None,
+        maltsev: None,
+    }
+}
+
+/// Finds the line of the class, given those of all classes before it. What was found on the way for an
+/// earlier class is not sought again. Fails where memory runs out.
+pub fn find_line(
+    alloc: Global,
+    lang: &Language,
+    class: ClassName,
+    classes: &mut Classes,
+) -> Result<(), NoMemory>
+    requires few_rows { weight_of 3 lang.now.relations ≤ most_weight }
+    requires few_sets { subset_weight_of lang.now.domain lang.now.relations ≤ most_weight }
+    requires found { AreFound lang.now (place_of class) classes.old }
+    ensures found { OnOk result (AreFound lang.now (place_of class + 1) classes.new) }
+{
     // for its clause that the domain has 1 to 5 values
     let _domain = lang.domain();
-    let setfn = least_setfn(alloc, lang, false)?;
-    let majority = least_op::<3, _>(alloc, lang, &NearUnanimity)?;
-    let maltsev = least_op::<3, _>(alloc, lang, &Maltsev)?;
-    Ok(Classes {
-        constant: least_constant(alloc, lang, &setfn)?,
-        semilattice: least_semilattice(alloc, lang, &setfn)?,
-        setfn,
-        nu4: least_nu4(alloc, lang, &majority, &maltsev)?,
-        affine: least_affine(alloc, lang)?,
-        majority,
-        maltsev,
-    })
+    match class {
+        ClassName::Constant => {
+            classes.setfn = least_setfn(alloc, lang, false)?;
+            classes.constant = least_constant(alloc, lang, &classes.setfn)?;
+        }
+        ClassName::Semilattice => {
+            classes.semilattice = least_semilattice(alloc, lang, &classes.setfn)?;
+        }
+        // found with the line of `constant`, which asks for it
+        ClassName::SetFunction => {}
+        ClassName::Majority => {
+            classes.majority = least_op::<3, _>(alloc, lang, &NearUnanimity)?;
+        }
+        ClassName::Nu4 => {
+            classes.maltsev = least_op::<3, _>(alloc, lang, &Maltsev)?;
+            classes.nu4 = least_nu4(alloc, lang, &classes.majority, &classes.maltsev)?;
+        }
+        ClassName::Affine => {
+            classes.affine = least_affine(alloc, lang)?;
+        }
+        // found with the line of `nu4`, which asks for it
+        ClassName::Maltsev => {}
+    }
+    Ok(())
 }
 
 /// The table of the line of `constant`, not sought where there is no set function.

@@ -4,4 +4,4 @@
 mod affine;
 mod finding;
 
-pub use finding::classify;
+pub use finding::{classify, find_line, nothing_found};

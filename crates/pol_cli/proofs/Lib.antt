@@ -13,3 +13,5 @@ pub mod StatusLaws
 pub mod PrintableItems
 pub mod TextsBehind
 pub mod OwnReports
+pub mod SendLemmas
+pub mod OutputLemmas

@@ -5,3 +5,4 @@ pub mod Tallies
 pub mod Due
 pub mod Runs
 pub mod Laws
+pub mod Outputs

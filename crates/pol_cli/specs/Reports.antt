@@ -1,5 +1,7 @@
 -- What a report of a file is, and what a begun one is.
-use Rattle.std.specs.Prelude.{◌≡◌, ℕ, List, ◌++◌, map, Option, Some, None}
+use Rattle.std.specs.Prelude.{◌≡◌, ◌⊎◌, ℕ, List, ◌++◌, map, Option, Some, None}
+use Rattle.std.specs.Io.KnownBytes.{Appends}
+use Rattle.pol_outside.specs.Contents.{AppendsFront}
 use Rattle.std.specs.List.{AllZip}
 use Rattle.pol_base.specs.declared.class_name.ClassName.{ClassName}
 use Rattle.pol_text.specs.Texts.{joined}
@@ -65,11 +67,20 @@ pub record HasItems (lang : LanguageView) (some : List Subject) (text : List ℕ
   pub right : AllZip (IsItem lang) some items
   pub text_is : text ≡ head_line ++ joined item_text items
 
--- new is old and a right item of the subject behind it
-pub record AppendsItem (lang : LanguageView) (subject : Subject) (old new : List ℕ) : Type 0 where
-  pub told : Item
-  pub right : IsItem lang subject told
-  pub appended : new ≡ old ++ item_text told
+-- a right item of each of the subjects was appended, in their order
+pub record AppendsItems (lang : LanguageView) (some : List Subject) (old new : Option (List ℕ)) : Type 0 where
+  pub items : List Item
+  pub right : AllZip (IsItem lang) some items
+  pub appended : Appends old new (joined item_text items)
+
+-- a front was appended of right items of the first of the subjects
+pub record AppendsItemsFront (lang : LanguageView) (some : List Subject) (old new : Option (List ℕ)) : Type 0 where
+  pub first : List Subject
+  pub later : List Subject
+  pub split : some ≡ first ++ later
+  pub items : List Item
+  pub right : AllZip (IsItem lang) first items
+  pub appended : AppendsFront old new (joined item_text items)
 
 -- an item of each subject, and the last line behind them
 pub record IsReport (file : FileView) (text : List ℕ) : Type 0 where
@@ -83,3 +94,15 @@ pub record IsBegunReport (file : FileView) (text : List ℕ) : Type 0 where
   pub later : List Subject
   pub split : subjects file ≡ first ++ later
   pub has_items : HasItems file.language first text
+
+-- the report was appended
+pub record AppendsReport (file : FileView) (old new : Option (List ℕ)) : Type 0 where
+  pub text : List ℕ
+  pub is_report : IsReport file text
+  pub appended : Appends old new text
+
+-- a front was appended of the report, or of a begun one
+pub record AppendsReportFront (file : FileView) (old new : Option (List ℕ)) : Type 0 where
+  pub text : List ℕ
+  pub is : IsBegunReport file text ⊎ IsReport file text
+  pub appended : AppendsFront old new text

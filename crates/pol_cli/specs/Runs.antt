@@ -10,8 +10,10 @@ use Rattle.pol_outside.specs.Faults.{Rose}
 use Rattle.pol_text.specs.declared.refusal.Refusal.{Refusal}
 use Rattle.pol_text.specs.declared.word.Word.TheVariants.{TooLong}
 use Rattle.pol_lang.specs.Limits.{most_bytes}
+use Rattle.pol_lang.specs.Files.{FileView}
 use Rattle.pol_cli.specs.declared.ended.Ended.{Ended}
 use Rattle.pol_cli.specs.declared.ended.Ended.TheVariants as ended
+use Rattle.pol_cli.specs.Reports.{AppendsReport, AppendsReportFront}
 use Rattle.pol_cli.specs.Due.{IsDue, IsFront}
 
 -- the bytes of each word
@@ -96,6 +98,15 @@ pub data Writes
       → Writes wanted result text old new before after
   cut_off : result ≡ ended.WriteFault → AppendsFront old new text → Rose before after
       → Writes wanted result text old new before after
+
+-- the run ends as it should where the whole report was appended, and else with what cut it off behind a front
+pub data Reports (file : FileView) (result : Ended) (old new : Option (List ℕ)) (before after : ℕ) : Type 0 where
+  whole : result ≡ ended.Done → AppendsReport file old new → after ≡ before
+      → Reports file result old new before after
+  cut_off : result ≡ ended.WriteFault → AppendsReportFront file old new → Rose before after
+      → Reports file result old new before after
+  out_of_memory : result ≡ ended.NoMemory → AppendsReportFront file old new → after ≡ before
+      → Reports file result old new before after
 
 -- how a run ends whose output was not flushed: a text that it wrote is not written
 abbrev pub unflushed : Ended → Ended

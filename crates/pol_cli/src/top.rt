@@ -5,18 +5,20 @@ ghost use Rattle.pol_outside.specs.Faults.{Rose};
 ghost use Rattle.pol_text.specs.Refusals.{refusal_line};
 ghost use Rattle.pol_lang.specs.Limits.{most_bytes};
 ghost use Rattle.pol_lang.specs.Reading.{parsed_of};
-ghost use Rattle.pol_cli.specs.Due.{AreKnown, AskInput, Begin, IsDue, input_words, report_words, check_words};
-ghost use Rattle.pol_cli.specs.Runs.{texts_of, IsAnswer, IsDueFor, WritesDue, WritesFront, HasRead, NotTooLong, Writes};
+ghost use Rattle.pol_cli.specs.Due.{AreKnown, AskInput, Begin, input_words, report_words, check_words};
+ghost use Rattle.pol_cli.specs.Runs.{texts_of, IsAnswer, WritesDue, WritesFront, HasRead, Writes, Reports};
+ghost use Rattle.pol_cli.specs.Checks.{IsChecked};
+ghost use Rattle.pol_cli.specs.Outputs.{IsOutput, IsOutputFor, IsTextOf, OutputNotTooLong, OutputHasRead, Delivers};
 
 use crate::Ended;
 use crate::check::checked;
-use crate::report::report_text;
+use crate::report::{Cut, send_report};
 use crate::summary::summary;
 use crate::words::{InputTask, Task, asked};
 use pol_base::{NoMemory, Values};
 use pol_lang::{File, Rest, nothing_more, read_file};
 use pol_outside::{Sink, Source, TakeFault, WriteFault, read_all, write_all};
-use pol_report::read_items;
+use pol_report::{Items, read_items};
 use pol_text::{ReadFail, Refusal, Word, put_refusal};
 use std::alloc::Global;
 
@@ -75,7 +77,7 @@ pub fn run<S: Source, O: Sink>(
 {
     match asked(words) {
         Some(Task::Input(task)) => match prepare(alloc, task, source) {
-            Ok((text, ended)) => write(sink, text.as_slice(), ended),
+            Ok(output) => deliver(alloc, sink, output),
             Err(Stop::ReadFault) => Ended::ReadFault,
             Err(Stop::NoMemory) => Ended::NoMemory,
         },
@@ -98,7 +100,39 @@ fn write<O: Sink>(sink: &mut O, text: &[u8], ended: Ended) -> Ended
     }
 }
 
-/// Why there is no text to write.
+/// What is written for an input.
+#[derive(Drop)]
+enum Output {
+    /// A text that was made, and how a run ends that writes it.
+    Text { text: Values, ended: Ended },
+    /// The report of the file, which is made while it is written.
+    Report { file: File },
+}
+
+/// Writes the output.
+fn deliver<O: Sink>(alloc: Global, sink: &mut O, output: Output) -> Ended
+    ensures delivers { Delivers output result
+        (O.written sink.old) (O.written sink.new) (O.faults sink.old) (O.faults sink.new) }
+{
+    match output {
+        Output::Text { text, ended } => write(sink, text.as_slice(), ended),
+        Output::Report { file } => report(alloc, sink, &file),
+    }
+}
+
+/// Writes the report of the file.
+fn report<O: Sink>(alloc: Global, sink: &mut O, file: &File) -> Ended
+    ensures reports { Reports file.now result
+        (O.written sink.old) (O.written sink.new) (O.faults sink.old) (O.faults sink.new) }
+{
+    match send_report(alloc, sink, file) {
+        Ok(()) => Ended::Done,
+        Err(Cut::WriteFault) => Ended::WriteFault,
+        Err(Cut::NoMemory) => Ended::NoMemory,
+    }
+}
+
+/// Why there is nothing to write.
 #[derive(Clone, Copy, Debug, PartialEq, Eq)]
 enum Stop {
     ReadFault,
@@ -116,17 +150,13 @@ impl From<NoMemory> for Stop {
     }
 }
 
-/// Reads the input to its end, and makes the text that is due for it.
-fn prepare<S: Source>(
-    alloc: Global,
-    task: InputTask,
-    source: &mut S,
-) -> Result<(Values, Ended), Stop>
-    ensures due { IfOk result (λ made. IsDueFor (input_words task) (S.left source.old) made.0 made.1) }
-    ensures answer { IfOk result (λ made. IsAnswer made.1) }
-    ensures read { IfOk result (λ made. HasRead made.1 (S.left source.old) (S.left source.new)) }
+/// Reads the input to its end, and answers what is to be written for it.
+fn prepare<S: Source>(alloc: Global, task: InputTask, source: &mut S) -> Result<Output, Stop>
+    ensures due { IfOk result (IsOutputFor (input_words task) (S.left source.old)) }
+    ensures read { IfOk result (λ output. OutputHasRead output (S.left source.old) (S.left source.new)) }
     ensures taken { OnOk result (IsAtEnd (S.left source.new)
         ⊎ Takes (S.left source.old) (S.left source.new) (most_bytes + 1)) }
+    ensures taken_most { OnOk result (TakesAtMost (S.left source.old) (S.left source.new) (most_bytes + 1)) }
     ensures read_fault { IsErrOf result Stop.ReadFault → Rose (S.faults source.old) (S.faults source.new) }
     ensures read_fault_taken { IsErrOf result Stop.ReadFault
         → TakesAtMost (S.left source.old) (S.left source.new) most_bytes }
@@ -148,12 +178,11 @@ fn prepare<S: Source>(
     }
 }
 
-/// What the task writes for the input, and how it ends.
-fn made(alloc: Global, task: InputTask, bytes: &[u8]) -> Result<(Values, Ended), NoMemory>
+/// What the task writes for the input.
+fn made(alloc: Global, task: InputTask, bytes: &[u8]) -> Result<Output, NoMemory>
     requires few { length bytes.now ≤ most_bytes }
-    ensures due { IfOk result (λ made. IsDue (input_words task) bytes.now made.0 made.1) }
-    ensures answer { IfOk result (λ made. IsAnswer made.1) }
-    ensures word { IfOk result (λ made. NotTooLong made.1) }
+    ensures due { IfOk result (IsOutput (input_words task) bytes.now) }
+    ensures word { IfOk result OutputNotTooLong }
 {
     let (file, rest) = match read_file(alloc, bytes) {
         Ok(read) => read,
@@ -161,47 +190,56 @@ fn made(alloc: Global, task: InputTask, bytes: &[u8]) -> Result<(Values, Ended),
         Err(ReadFail::NoMemory) => return Err(NoMemory),
     };
     match task {
-        InputTask::Report => report(alloc, bytes, &file, rest),
+        InputTask::Report => alone(alloc, bytes, file, rest),
         InputTask::Check => check(alloc, bytes, &file, rest),
     }
 }
 
 /// The report of the file, where no significant line stands behind it.
-fn report(alloc: Global, bytes: &[u8], file: &File, rest: Rest) -> Result<(Values, Ended), NoMemory>
-    requires begins { Begin bytes.now (parsed_of (file.now, rest)) }
+fn alone(alloc: Global, bytes: &[u8], file: File, rest: Rest) -> Result<Output, NoMemory>
+    requires begins { Begin bytes.now (parsed_of (file, rest)) }
     requires place { rest.place ≤ length bytes.now }
     requires line { rest.line ≤ most_bytes + 1 }
-    ensures due { IfOk result (λ made. IsDue report_words bytes.now made.0 made.1) }
-    ensures answer { IfOk result (λ made. IsAnswer made.1) }
-    ensures word { IfOk result (λ made. NotTooLong made.1) }
+    ensures due { IfOk result (IsOutput report_words bytes.now) }
+    ensures word { IfOk result OutputNotTooLong }
 {
     match nothing_more(bytes, rest) {
-        Ok(()) => Ok((report_text(alloc, file)?, Ended::Done)),
+        Ok(()) => Ok(Output::Report { file }),
         Err(refusal) => refused(alloc, refusal),
     }
 }
 
 /// The verdicts on the items of the report that stands behind the file.
-fn check(alloc: Global, bytes: &[u8], file: &File, rest: Rest) -> Result<(Values, Ended), NoMemory>
+fn check(alloc: Global, bytes: &[u8], file: &File, rest: Rest) -> Result<Output, NoMemory>
     requires begins { Begin bytes.now (parsed_of (file.now, rest)) }
     requires place { rest.place ≤ length bytes.now }
     requires line { rest.line ≤ most_bytes + 1 }
-    ensures due { IfOk result (λ made. IsDue check_words bytes.now made.0 made.1) }
-    ensures answer { IfOk result (λ made. IsAnswer made.1) }
-    ensures word { IfOk result (λ made. NotTooLong made.1) }
+    ensures due { IfOk result (IsOutput check_words bytes.now) }
+    ensures word { IfOk result OutputNotTooLong }
 {
     match read_items(alloc, &bytes[rest.place..], rest.line) {
-        Ok(items) => checked(alloc, file, &items),
+        Ok(items) => verdicts(alloc, file, &items),
         Err(ReadFail::Refused(refusal)) => refused(alloc, refusal),
         Err(ReadFail::NoMemory) => Err(NoMemory),
     }
 }
 
+/// The verdicts on the items.
+fn verdicts(alloc: Global, file: &File, items: &Items) -> Result<Output, NoMemory>
+    ensures made { IfOk result (IsTextOf (IsChecked file.now items.now)) }
+{
+    let (text, ended) = checked(alloc, file, items)?;
+    Ok(Output::Text { text, ended })
+}
+
 /// The line of the refusal.
-fn refused(alloc: Global, refusal: Refusal) -> Result<(Values, Ended), NoMemory>
-    ensures refused { IfOk result (λ made. made ≡ (refusal_line refusal, Ended.Refused refusal)) }
+fn refused(alloc: Global, refusal: Refusal) -> Result<Output, NoMemory>
+    ensures refused { IfOk result (λ output. output ≡ Output.Text (refusal_line refusal) (Ended.Refused refusal)) }
 {
     let mut text = Values::new(alloc);
     put_refusal(&mut text, refusal)?;
-    Ok((text, Ended::Refused(refusal)))
+    Ok(Output::Text {
+        text,
+        ended: Ended::Refused(refusal),
+    })
 }

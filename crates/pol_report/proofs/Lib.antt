@@ -7,3 +7,4 @@ pub mod TokensReadAgain
 pub mod OpeningsReadAgain
 pub mod ItemsReadAgain
 pub mod RefusalWords
+pub mod PieceLemmas

@@ -1,5 +1,5 @@
 -- No report is refused by the grammar as too long: that word is given to inputs before they are read as a text.
-use Rattle.std.proofs.Common.{◌≡◌, ◌≢◌, ℕ, zero, suc, ◌+◌, ◌-◌, ◌==◌, Bool, true, false, cond, ◌&&◌, nat_le, codes, List, [], ◌∷◌, length, drop, Option, Some, None, Result, Ok, Err, subst}
+use Rattle.std.proofs.Common.{◌≡◌, ◌≢◌, ℕ, zero, suc, ◌+◌, Bool, true, false, cond, ◌&&◌, codes, List, [], ◌∷◌, length, Option, Some, None, Result, Ok, Err, subst}
 use Rattle.pol_base.specs.Lists.{is_same}
 use Rattle.pol_base.specs.declared.class_name.ClassName.{ClassName}
 use Rattle.pol_base.specs.declared.class_name.ClassName.TheVariants.{Constant, Semilattice, SetFunction, Majority, Nu4, Affine, Maltsev}

@@ -7,3 +7,5 @@ pub mod Certificates
 pub mod Openings
 pub mod Grammar
 pub mod Reading
+pub mod Pieces
+pub mod Sending

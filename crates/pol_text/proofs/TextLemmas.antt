@@ -1,9 +1,11 @@
 -- Texts that are appended part by part, and what stands where a part was not appended whole.
-use Rattle.std.proofs.Common.{◌≡◌, ℕ, List, [], ◌∷◌, ◌++◌, sym, ◌∙◌, ap, append_assoc, append-nil, refl, Result, Ok, Err, zero, suc, ◌<◌, length, take, get_or, arith, map, flat_map, drop, ◌+◌, ◌*◌, ◌≤◌, add-one, codes, All, length-append}
-use Rattle.std.specs.Prelude.{OnOk, OnErr, IsErr}
+use Rattle.std.proofs.Common.{◌≡◌, ℕ, List, [], ◌∷◌, ◌++◌, sym, ◌∙◌, ap, append_assoc, append-nil, refl, Result, Ok, Err, subst, zero, suc, ◌<◌, length, take, get_or, arith, map, flat_map, drop, ◌+◌, ◌*◌, ◌≤◌, add-one, codes, All, length-append}
+use Rattle.std.specs.Prelude.{Option, Some, OnOk, OnErr, IsErr}
 use Rattle.std.proofs.lemmas.Result.{MatchResult-from_err}
 use Rattle.std.proofs.lemmas.List.Elements.{All-head, All-tail}
-use Rattle.pol_text.specs.Texts.{joined, spaced_texts, printed_line, GrowsByFront, Puts}
+use Rattle.std.specs.Io.KnownBytes.{Appends}
+use Rattle.std.proofs.KnownBytes.{Appends-trans}
+use Rattle.pol_text.specs.Texts.{joined, spaced_texts, printed_line, GrowsByFrontIn, GrowsByFront, PutsIn, Puts}
 
 -- ---- fronts
 
@@ -11,22 +13,25 @@ regrouped : (a b c d : List ℕ) → a ++ (b ++ c) ++ d ≡ a ++ b ++ (c ++ d)
 regrouped a b c d = simp append_assoc
 
 -- a front of a text in the middle
-pub GrowsByFront-behind : (old mid new front text rest : List ℕ) → mid ≡ old ++ front → GrowsByFront mid new text → GrowsByFront old new (front ++ text ++ rest)
-GrowsByFront-behind old mid new front text rest grown part = record {
+pub front_behind : (old mid new : Option (List ℕ)) (front text rest : List ℕ) → Appends old mid front → GrowsByFrontIn mid new text → GrowsByFrontIn old new (front ++ text ++ rest)
+front_behind old mid new front text rest grown part = record {
   front = front ++ part.front;
   rest = part.rest ++ rest;
   text_is = ap (λ bytes. front ++ bytes ++ rest) part.text_is ∙ regrouped front part.front part.rest rest;
-  new_is = part.new_is ∙ (ap (λ bytes. bytes ++ part.front) grown ∙ append_assoc old front part.front);
+  new_is = Appends-trans old mid new front part.front grown part.new_is;
 }
 
 -- a front of a text at the end
-pub GrowsByFront-last : (old mid new front text : List ℕ) → mid ≡ old ++ front → GrowsByFront mid new text → GrowsByFront old new (front ++ text)
-GrowsByFront-last old mid new front text grown part = record {
+pub front_last : (old mid new : Option (List ℕ)) (front text : List ℕ) → Appends old mid front → GrowsByFrontIn mid new text → GrowsByFrontIn old new (front ++ text)
+front_last old mid new front text grown part = record {
   front = front ++ part.front;
   rest = part.rest;
   text_is = ap (λ bytes. front ++ bytes) part.text_is ∙ sym (append_assoc front part.front part.rest);
-  new_is = part.new_is ∙ (ap (λ bytes. bytes ++ part.front) grown ∙ append_assoc old front part.front);
+  new_is = Appends-trans old mid new front part.front grown part.new_is;
 }
+
+pub GrowsByFront-last : (old mid new front text : List ℕ) → mid ≡ old ++ front → GrowsByFront mid new text → GrowsByFront old new (front ++ text)
+GrowsByFront-last old mid new front text grown part = front_last (Some old) (Some mid) (Some new) front text grown part
 
 -- a front of a text is a front of the longer text
 pub GrowsByFront-more : (old new text rest : List ℕ) → GrowsByFront old new text → GrowsByFront old new (text ++ rest)
@@ -43,7 +48,7 @@ GrowsByFront-whole old new text rest grown = record { front = text; rest = rest;
 
 -- two texts, one behind the other
 pub grown_twice : (old mid new one other : List ℕ) → mid ≡ old ++ one → new ≡ mid ++ other → new ≡ old ++ (one ++ other)
-grown_twice old mid new one other first second = second ∙ (ap (λ bytes. bytes ++ other) first ∙ append_assoc old one other)
+grown_twice old mid new one other first second = Appends-trans (Some old) (Some mid) (Some new) one other first second
 
 -- ---- texts of lists
 
@@ -61,14 +66,16 @@ joined-at item (x ∷ xs) zero d inside = refl
 joined-at item (x ∷ xs) (suc i) d inside = ap (λ bytes. item x ++ bytes) (joined-at item xs i d (omega arith)) ∙ regrouped_again (item x) (joined item (take i xs)) (item (get_or xs i d)) (joined item (drop (suc i) xs))
 
 -- one item more stands behind the old
+pub joined-appended : {X : Type 0} (item : X → List ℕ) (xs : List X) (i : ℕ) (d : X) (old mid new : Option (List ℕ)) → i < length xs → Appends old mid (joined item (take i xs)) → Appends mid new (item (get_or xs i d)) → Appends old new (joined item (take (i + 1) xs))
+joined-appended item xs i d old mid new inside grown more =
+    rw add-one (subst (Appends old new) (sym (joined-next item xs i d inside)) (Appends-trans old mid new (joined item (take i xs)) (item (get_or xs i d)) grown more))
+
 pub joined-grown : {X : Type 0} (item : X → List ℕ) (xs : List X) (i : ℕ) (d : X) (old mid new : List ℕ) → i < length xs → mid ≡ old ++ joined item (take i xs) → new ≡ mid ++ item (get_or xs i d) → new ≡ old ++ joined item (take (i + 1) xs)
-joined-grown item xs i d old mid new inside grown more =
-    rw add-one
-    (more ∙ (ap (λ bytes. bytes ++ item (get_or xs i d)) grown ∙ (append_assoc old (joined item (take i xs)) (item (get_or xs i d)) ∙ ap (λ bytes. old ++ bytes) (sym (joined-next item xs i d inside)))))
+joined-grown item xs i d old mid new inside grown more = joined-appended item xs i d (Some old) (Some mid) (Some new) inside grown more
 
 -- a front of an item stands behind the old
-pub joined-front : {X : Type 0} (item : X → List ℕ) (xs : List X) (i : ℕ) (d : X) (old mid new : List ℕ) → i < length xs → mid ≡ old ++ joined item (take i xs) → GrowsByFront mid new (item (get_or xs i d)) → GrowsByFront old new (joined item xs)
-joined-front item xs i d old mid new inside grown part = rw (joined-at item xs i d inside) (GrowsByFront-behind old mid new (joined item (take i xs)) (item (get_or xs i d)) (joined item (drop (suc i) xs)) grown part)
+pub joined-front : {X : Type 0} (item : X → List ℕ) (xs : List X) (i : ℕ) (d : X) (old mid new : Option (List ℕ)) → i < length xs → Appends old mid (joined item (take i xs)) → GrowsByFrontIn mid new (item (get_or xs i d)) → GrowsByFrontIn old new (joined item xs)
+joined-front item xs i d old mid new inside grown part = rw (joined-at item xs i d inside) (front_behind old mid new (joined item (take i xs)) (item (get_or xs i d)) (joined item (drop (suc i) xs)) grown part)
 
 -- the texts of two lists, one behind the other
 pub joined-append : {X : Type 0} (item : X → List ℕ) (xs ys : List X) → joined item (xs ++ ys) ≡ joined item xs ++ joined item ys
@@ -92,8 +99,11 @@ pub puts_stopped : {A E : Type 0} (r : Result A E) (old new text : List ℕ) →
 puts_stopped r old new text failed part = MatchResult-from_err r _ _ failed (λ _. part)
 
 -- a call that appends the texts of a list one by one and stopped in one of them
+pub joined-cut : {X A E : Type 0} (r : Result A E) (item : X → List ℕ) (xs : List X) (i : ℕ) (d : X) (old mid new : Option (List ℕ)) → IsErr r → i < length xs → Appends old mid (joined item (take i xs)) → GrowsByFrontIn mid new (item (get_or xs i d)) → PutsIn r old new (joined item xs)
+joined-cut r item xs i d old mid new failed inside grown part = MatchResult-from_err r _ _ failed (λ _. joined-front item xs i d old mid new inside grown part)
+
 pub joined-stopped : {X A E : Type 0} (r : Result A E) (item : X → List ℕ) (xs : List X) (i : ℕ) (d : X) (old mid new : List ℕ) → IsErr r → i < length xs → mid ≡ old ++ joined item (take i xs) → GrowsByFront mid new (item (get_or xs i d)) → Puts r old new (joined item xs)
-joined-stopped r item xs i d old mid new failed inside grown part = puts_stopped r old new (joined item xs) failed (joined-front item xs i d old mid new inside grown part)
+joined-stopped r item xs i d old mid new failed inside grown part = joined-cut r item xs i d (Some old) (Some mid) (Some new) failed inside grown part
 
 -- the same of the texts of what is made of each element
 pub mapped-grown : {X Y : Type 0} (item : Y → List ℕ) (f : X → Y) (xs : List X) (i : ℕ) (d : X) (old mid new : List ℕ) → i < length xs → mid ≡ old ++ joined item (map f (take i xs)) → new ≡ mid ++ item (f (get_or xs i d)) → new ≡ old ++ joined item (map f (take (i + 1) xs))
@@ -131,9 +141,18 @@ pub puts_cut : (old new text rest : List ℕ) → GrowsByFront old new text → 
 puts_cut old new text rest part = GrowsByFront-more old new text rest part
 
 -- two texts appended in turn, of which the first was appended whole
-pub puts_then : {A E : Type 0} (r : Result A E) (old mid new one other : List ℕ) → mid ≡ old ++ one → Puts r mid new other → Puts r old new (one ++ other)
-puts_then (Ok x) old mid new one other first second = grown_twice old mid new one other first second
-puts_then (Err e) old mid new one other first second = GrowsByFront-last old mid new one other first second
+pub puts_then : {A E : Type 0} (r : Result A E) (old mid new : Option (List ℕ)) (one other : List ℕ) → Appends old mid one → PutsIn r mid new other → PutsIn r old new (one ++ other)
+puts_then (Ok x) old mid new one other first second = Appends-trans old mid new one other first second
+puts_then (Err e) old mid new one other first second = front_last old mid new one other first second
+
+-- two texts appended in turn, where the first call was cut off
+pub puts_first : {A E : Type 0} (r : Result A E) (old new : Option (List ℕ)) (one other : List ℕ) → IsErr r → GrowsByFrontIn old new one → PutsIn r old new (one ++ other)
+puts_first r old new one other failed part = MatchResult-from_err r _ _ failed (λ _. record {
+  front = part.front;
+  rest = part.rest ++ other;
+  text_is = ap (λ bytes. bytes ++ other) part.text_is ∙ append_assoc part.front part.rest other;
+  new_is = part.new_is;
+})
 
 -- ---- lengths
 

@@ -1,12 +1,13 @@
-ghost use Rattle.std.specs.Prelude.{◌≡◌, ◌<◌, ◌≤◌, ◌++◌, ◌-◌, false, true, length, take, map, slice_index_or};
+ghost use Rattle.std.specs.Prelude.{◌≡◌, ◌<◌, ◌≤◌, ◌++◌, ◌-◌, false, true, length, take, map, slice_index_or, OnOk, OnErr};
+ghost use Rattle.pol_outside.specs.Faults.{Rose};
 ghost use Rattle.std.specs.Prelude.{codes, decimal, OnOk, OnErr};
 ghost use Rattle.std.specs.List.{list_all};
 ghost use Rattle.pol_base.specs.Tuples.{cell_of};
 ghost use Rattle.pol_text.specs.Lines.{number_of, is_digit};
-ghost use Rattle.pol_text.specs.Texts.{spaced, Puts};
+ghost use Rattle.pol_text.specs.Texts.{spaced, PutsIn};
 
+use crate::Text;
 use itoa::Buffer;
-use pol_base::{NoMemory, Values};
 
 pub(crate) const MOST_DIGITS: usize = 9;
 
@@ -41,25 +42,37 @@ pub(crate) fn leading_number(bytes: &[u8]) -> (u32, usize)
     (value, length)
 }
 
-/// Appends the decimal digits of the number. Where memory runs out, a front of them is appended.
-pub fn put_number(out: &mut Values, n: u64) -> Result<(), NoMemory>
-    ensures puts { Puts result out.old out.new (decimal n) }
+/// Appends the decimal digits of the number. Where the text takes no more, a front of them is appended.
+pub fn put_number<T: Text>(out: &mut T, n: u64) -> Result<(), T::Fault>
+    ensures puts { PutsIn result (T.bytes out.old) (T.bytes out.new) (decimal n) }
+    ensures place { T.place out.new ≡ T.place out.old }
+    ensures sent { T.sent out.old ≤ T.sent out.new }
+    ensures calm { OnOk result (T.faults out.new ≡ T.faults out.old) }
+    ensures fault { OnErr result (Rose (T.faults out.old) (T.faults out.new)) }
 {
     let mut buffer = Buffer::new();
     out.append(buffer.format(n).as_bytes())
 }
 
-/// Appends a space and the number. Where memory runs out, a front of them is appended.
-pub fn put_spaced(out: &mut Values, n: u64) -> Result<(), NoMemory>
-    ensures puts { Puts result out.old out.new (codes " " ++ decimal n) }
+/// Appends a space and the number. Where the text takes no more, a front of them is appended.
+pub fn put_spaced<T: Text>(out: &mut T, n: u64) -> Result<(), T::Fault>
+    ensures puts { PutsIn result (T.bytes out.old) (T.bytes out.new) (codes " " ++ decimal n) }
+    ensures place { T.place out.new ≡ T.place out.old }
+    ensures sent { T.sent out.old ≤ T.sent out.new }
+    ensures calm { OnOk result (T.faults out.new ≡ T.faults out.old) }
+    ensures fault { OnErr result (Rose (T.faults out.old) (T.faults out.new)) }
 {
     out.append(b" ")?;
     put_number(out, n)
 }
 
-/// Appends the values, each behind a space. Where memory runs out, a front of them is appended.
-pub fn put_values(out: &mut Values, values: &[u8]) -> Result<(), NoMemory>
-    ensures puts { Puts result out.old out.new (spaced values.now) }
+/// Appends the values, each behind a space. Where the text takes no more, a front of them is appended.
+pub fn put_values<T: Text>(out: &mut T, values: &[u8]) -> Result<(), T::Fault>
+    ensures puts { PutsIn result (T.bytes out.old) (T.bytes out.new) (spaced values.now) }
+    ensures place { T.place out.new ≡ T.place out.old }
+    ensures sent { T.sent out.old ≤ T.sent out.new }
+    ensures calm { OnOk result (T.faults out.new ≡ T.faults out.old) }
+    ensures fault { OnErr result (Rose (T.faults out.old) (T.faults out.new)) }
 {
     for value in values {
         put_spaced(out, u64::from(*value))?;
@@ -67,9 +80,13 @@ pub fn put_values(out: &mut Values, values: &[u8]) -> Result<(), NoMemory>
     Ok(())
 }
 
-/// Appends the numbers, each behind a space. Where memory runs out, a front of them is appended.
-pub fn put_numbers(out: &mut Values, numbers: &[u32]) -> Result<(), NoMemory>
-    ensures puts { Puts result out.old out.new (spaced numbers.now) }
+/// Appends the numbers, each behind a space. Where the text takes no more, a front of them is appended.
+pub fn put_numbers<T: Text>(out: &mut T, numbers: &[u32]) -> Result<(), T::Fault>
+    ensures puts { PutsIn result (T.bytes out.old) (T.bytes out.new) (spaced numbers.now) }
+    ensures place { T.place out.new ≡ T.place out.old }
+    ensures sent { T.sent out.old ≤ T.sent out.new }
+    ensures calm { OnOk result (T.faults out.new ≡ T.faults out.old) }
+    ensures fault { OnErr result (Rose (T.faults out.old) (T.faults out.new)) }
 {
     for number in numbers {
         put_spaced(out, u64::from(*number))?;

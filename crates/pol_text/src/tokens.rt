@@ -1,11 +1,12 @@
-ghost use Rattle.std.specs.Prelude.{◌≡◌, ◌≤◌, ◌++◌, ℕ, List, codes, length, drop, not, option_map, slice_get};
+ghost use Rattle.std.specs.Prelude.{◌≡◌, ◌≤◌, ◌++◌, ℕ, List, codes, length, drop, not, option_map, slice_get, OnErr, OnOk};
+ghost use Rattle.pol_outside.specs.Faults.{Rose};
 ghost use Rattle.std.specs.Iterator.{YieldsFirstBy, item_count};
 ghost use Rattle.std.specs.List.{position_or_len};
 ghost use Rattle.pol_text.specs.Lines.{tokens_of, is_blank, begins_solid, number_of};
-ghost use Rattle.pol_text.specs.Texts.{Puts};
+ghost use Rattle.pol_text.specs.Texts.{PutsIn};
 
+use crate::Text;
 use crate::decimals::{MOST_DIGITS, leading_number};
-use pol_base::{NoMemory, Values};
 use std::marker::Model;
 
 /// The tokens of a line, from left to right.
@@ -104,9 +105,13 @@ fn is_blank(byte: u8) -> bool
     byte == b' ' || byte == b'\t'
 }
 
-/// Appends a space and the token. Where memory runs out, a front of them is appended.
-pub fn put_token(out: &mut Values, token: &[u8]) -> Result<(), NoMemory>
-    ensures puts { Puts result out.old out.new (codes " " ++ token.now) }
+/// Appends a space and the token. Where the text takes no more, a front of them is appended.
+pub fn put_token<T: Text>(out: &mut T, token: &[u8]) -> Result<(), T::Fault>
+    ensures puts { PutsIn result (T.bytes out.old) (T.bytes out.new) (codes " " ++ token.now) }
+    ensures place { T.place out.new ≡ T.place out.old }
+    ensures sent { T.sent out.old ≤ T.sent out.new }
+    ensures calm { OnOk result (T.faults out.new ≡ T.faults out.old) }
+    ensures fault { OnErr result (Rose (T.faults out.old) (T.faults out.new)) }
 {
     out.append(b" ")?;
     out.append(token)

@@ -1,4 +1,4 @@
-use Rattle.std.proofs.Common.{◌≡◌, arith}
+use Rattle.std.proofs.Common.{◌≡◌}
 use Rattle.pol_optable.specs.Operations.{operation_of}
 use Rattle.pol_optable.specs.Tables.{IsOpTable}
 use Rattle.pol_checker.proofs.TableLemmas.{small_table, table_of}

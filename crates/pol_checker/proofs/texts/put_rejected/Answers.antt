@@ -1,6 +1,6 @@
 use Rattle.std.proofs.Common.{◌++◌, refl, codes}
 use Rattle.pol_text.specs.Texts.{spaced_texts}
-use Rattle.pol_report.proofs.PrintLemmas.{cut_first, last_call}
+use Rattle.pol_report.proofs.PrintLemmas.{cut_first}
 use Rattle.pol_checker.specs.VerdictTexts.{cause_tokens}
 use Rattle.pol_checker.proofs.texts.put_rejected.Goals as goal
 

@@ -1,4 +1,4 @@
-use Rattle.std.proofs.Common.{◌≡◌, List, ℕ, [], ◌∷◌, ◌++◌, codes, decimal, flat_map, refl}
+use Rattle.std.proofs.Common.{◌≡◌, List, ℕ, [], ◌∷◌, ◌++◌, codes, decimal, flat_map, refl, Some}
 use Rattle.pol_text.specs.Texts.{joined, printed_line}
 use Rattle.pol_text.proofs.TextLemmas.{joined-parts, puts_cut, puts_last, puts_stopped, puts_then}
 use Rattle.pol_lang.specs.Files.{FileView}
@@ -26,14 +26,14 @@ returns-in_err-put_front c =
 pub returns-in_err-put_relations : goal.returns-in_err-put_relations
 returns-in_err-put_relations c =
     let file = c.args.file.now in
-    record { puts = rw (parts file) (puts_then _ _ _ _ (front file) _ c.in_ok-put_front.ensures.puts (puts_stopped _ _ _ _ c.from_residual-in_err-put_relations.ensures.0 (puts_cut _ _ (relations file) _ c.in_err-put_relations.ensures.puts))) }
+    record { puts = rw (parts file) (puts_then _ (Some _) (Some _) (Some _) (front file) _ c.in_ok-put_front.ensures.puts (puts_stopped _ _ _ _ c.from_residual-in_err-put_relations.ensures.0 (puts_cut _ _ (relations file) _ c.in_err-put_relations.ensures.puts))) }
 
 pub returns-in_err-put_instances : goal.returns-in_err-put_instances
 returns-in_err-put_instances c =
     let file = c.args.file.now in
-    record { puts = rw (parts file) (puts_then _ _ _ _ (front file) _ c.in_ok-put_front.ensures.puts (puts_then _ _ _ _ (relations file) _ c.in_ok-put_relations.ensures.puts (puts_stopped _ _ _ _ c.from_residual-in_err-put_instances.ensures.0 (puts_cut _ _ (instances file) (codes "end\n") c.in_err-put_instances.ensures.puts)))) }
+    record { puts = rw (parts file) (puts_then _ (Some _) (Some _) (Some _) (front file) _ c.in_ok-put_front.ensures.puts (puts_then _ (Some _) (Some _) (Some _) (relations file) _ c.in_ok-put_relations.ensures.puts (puts_stopped _ _ _ _ c.from_residual-in_err-put_instances.ensures.0 (puts_cut _ _ (instances file) (codes "end\n") c.in_err-put_instances.ensures.puts)))) }
 
 pub returns : goal.returns
 returns c =
     let file = c.args.file.now in
-    record { puts = rw (parts file) (puts_then _ _ _ _ (front file) _ c.in_ok-put_front.ensures.puts (puts_then _ _ _ _ (relations file) _ c.in_ok-put_relations.ensures.puts (puts_last _ _ _ _ (instances file) (codes "end\n") _ c.in_ok-put_instances.ensures.puts c.append.ensures.ok c.append.ensures.err refl))) }
+    record { puts = rw (parts file) (puts_then _ (Some _) (Some _) (Some _) (front file) _ c.in_ok-put_front.ensures.puts (puts_then _ (Some _) (Some _) (Some _) (relations file) _ c.in_ok-put_relations.ensures.puts (puts_last _ _ _ _ (instances file) (codes "end\n") _ c.in_ok-put_instances.ensures.puts c.append.ensures.ok c.append.ensures.err refl))) }

@@ -1,4 +1,4 @@
-use Rattle.std.proofs.Common.{◌≡◌, ◌∷◌, [], length, length-append, sym, ◌∙◌, arith}
+use Rattle.std.proofs.Common.{◌∷◌, [], length-append, sym, ◌∙◌, arith}
 use Rattle.pol_modp.specs.Parts.{part_named}
 use Rattle.pol_report.specs.Certificates.{part_from}
 use Rattle.pol_report.specs.Grammar.{line_from}

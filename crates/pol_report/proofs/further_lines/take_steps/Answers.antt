@@ -1,4 +1,4 @@
-use Rattle.std.proofs.Common.{◌≡◌, ◌∷◌, [], length, length-append, sym, ◌∙◌, arith}
+use Rattle.std.proofs.Common.{◌∷◌, [], length-append, sym, ◌∙◌, arith}
 use Rattle.pol_nogood.specs.Steps.{step_named}
 use Rattle.pol_report.specs.Certificates.{step_from}
 use Rattle.pol_report.specs.Grammar.{line_from}

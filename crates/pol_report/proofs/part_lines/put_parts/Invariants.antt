@@ -1,8 +1,14 @@
-use Rattle.std.proofs.Common.{◌≡◌, ◌++◌, take}
+use Rattle.std.proofs.Common.{◌≡◌, ◌≤◌, take}
+use Rattle.std.specs.Io.KnownBytes.{Appends}
 use Rattle.pol_text.specs.Texts.{joined}
 use Rattle.pol_report.specs.Texts.{part_line}
 use Rattle.pol_report.proofs.part_lines.put_parts.Given as goal
 
--- the parts so far stand behind what was there
+-- the parts so far stand behind what was there, in the same place, and there was no fault
 abbrev pub invariant-loop-i : goal.invariant-loop-i
-invariant-loop-i l = l.out ≡ l.initial.out ++ joined part_line (take l.i l.combination.parts)
+invariant-loop-i g l = record {
+  so_far : Appends (g.T.Text.bytes l.initial.out) (g.T.Text.bytes l.out) (joined part_line (take l.i l.combination.parts));
+  place : g.T.Text.place l.out ≡ g.T.Text.place l.initial.out;
+  sent : g.T.Text.sent l.initial.out ≤ g.T.Text.sent l.out;
+  calm : g.T.Text.faults l.out ≡ g.T.Text.faults l.initial.out;
+}

@@ -1,9 +1,13 @@
-use Rattle.std.proofs.Common.{◌++◌, [], ◌∷◌, refl, codes, decimal}
+use Rattle.std.proofs.Common.{◌++◌, [], ◌∷◌, refl, codes, decimal, ap}
 use Rattle.pol_text.specs.Texts.{spaced_texts}
-use Rattle.pol_report.proofs.PrintLemmas.{cut_first}
+use Rattle.pol_report.proofs.PrintLemmas.{cut_first, last_call, one_token}
 use Rattle.pol_report.proofs.part_lines.put_sides.Goals as goal
 
-pub returns-in_err-put_spaced : goal.returns-in_err-put_spaced
-returns-in_err-put_spaced c =
+pub returns-in_err-put_spaced-clause-puts : goal.returns-in_err-put_spaced-clause-puts
+returns-in_err-put_spaced-clause-puts g c =
     let front = rw c.from.ensures at c.in_err-put_spaced.ensures.puts in
-    record { puts = cut_first c.from_residual.result _ _ (codes " " ++ decimal c.args.multiplier) (spaced_texts (decimal c.args.right ∷ [])) _ c.from_residual.ensures.0 front refl }
+    cut_first c.from_residual.result _ _ (codes " " ++ decimal c.args.multiplier) (spaced_texts (decimal c.args.right ∷ [])) _ c.from_residual.ensures.0 front refl
+
+pub returns-clause-puts : goal.returns-clause-puts
+returns-clause-puts g c =
+    last_call c.put_spaced-2.result _ _ _ (codes " " ++ decimal c.args.multiplier) (codes " " ++ decimal c.args.right) _ (rw c.from.ensures at c.in_ok-put_spaced.ensures.puts) (rw c.from-2.ensures at c.put_spaced-2.ensures.puts) (ap (λ text. (codes " " ++ decimal c.args.multiplier) ++ text) (one_token (decimal c.args.right)))

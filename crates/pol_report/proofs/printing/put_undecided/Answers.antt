@@ -1,8 +1,12 @@
 use Rattle.std.proofs.Common.{◌++◌, [], ◌∷◌, refl, codes}
 use Rattle.pol_text.specs.Texts.{spaced_texts}
-use Rattle.pol_report.proofs.PrintLemmas.{cut_first}
+use Rattle.pol_report.proofs.PrintLemmas.{cut_first, line_ended}
 use Rattle.pol_report.proofs.printing.put_undecided.Goals as goal
 
-pub returns-in_err-put_begun : goal.returns-in_err-put_begun
-returns-in_err-put_begun c =
-    record { puts = cut_first c.from_residual.result _ _ (codes "instance" ++ spaced_texts (c.args.name.now ∷ codes "undecided" ∷ [])) (codes "\n") _ c.from_residual.ensures.0 c.in_err-put_begun.ensures.puts refl }
+pub returns-in_err-put_begun-clause-puts : goal.returns-in_err-put_begun-clause-puts
+returns-in_err-put_begun-clause-puts g c =
+    cut_first c.from_residual.result _ _ (codes "instance" ++ spaced_texts (c.args.name.now ∷ codes "undecided" ∷ [])) (codes "\n") _ c.from_residual.ensures.0 c.in_err-put_begun.ensures.puts refl
+
+pub returns-clause-puts : goal.returns-clause-puts
+returns-clause-puts g c =
+    line_ended c.append.result _ _ _ (codes "instance" ++ spaced_texts (c.args.name.now ∷ codes "undecided" ∷ [])) c.in_ok-put_begun.ensures.puts c.append.ensures.puts

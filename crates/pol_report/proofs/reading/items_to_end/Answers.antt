@@ -1,4 +1,4 @@
-use Rattle.std.proofs.Common.{◌≡◌, ◌+◌, ◌-◌, ◌<◌, ◌∷◌, ◌++◌, [], append-nil, ltb, length, length-append, codes, true, false, Ok, Err, ap, sym, ◌∙◌, arith, rules}
+use Rattle.std.proofs.Common.{◌≡◌, ◌+◌, ◌-◌, ◌∷◌, ◌++◌, [], append-nil, ltb, length, length-append, codes, true, false, Ok, Err, ap, sym, ◌∙◌, arith, rules}
 use Rattle.std.proofs.lemmas.Result.{err_from_is_err_and}
 use Rattle.pol_text.specs.Reading.{after_line, begins_with, end_line}
 use Rattle.pol_report.specs.Limits.{most_items, most_steps}

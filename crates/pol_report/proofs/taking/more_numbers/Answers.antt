@@ -1,7 +1,7 @@
 use Rattle.std.proofs.Common.{◌≡◌, ◌<◌, ◌+◌, ◌-◌, ◌∷◌, ◌++◌, [], length, length-append, Err, ap, sym, ◌∙◌, arith, rules}
 use Rattle.std.proofs.lemmas.Result.{err_from_is_err_and}
 use Rattle.pol_report.specs.Tokens.{to_end, as_number}
-use Rattle.pol_report.specs.Reading.{Takes, itself, all_behind}
+use Rattle.pol_report.specs.Reading.{itself, all_behind}
 use Rattle.pol_report.proofs.CountLemmas.{to_end-next, to_end-refused, refused_item}
 use Rattle.pol_report.proofs.taking.more_numbers.Goals as goal
 

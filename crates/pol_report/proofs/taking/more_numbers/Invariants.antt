@@ -1,4 +1,4 @@
-use Rattle.std.proofs.Common.{◌≡◌, ◌-◌, ◌≤◌, ◌∷◌, length}
+use Rattle.std.proofs.Common.{◌≡◌, ◌-◌, ◌≤◌, length}
 use Rattle.pol_report.specs.Tokens.{to_end, as_number}
 use Rattle.pol_report.specs.Reading.{all_behind}
 use Rattle.pol_report.proofs.taking.more_numbers.Given as goal

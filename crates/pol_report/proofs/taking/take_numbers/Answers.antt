@@ -1,8 +1,8 @@
 use Rattle.std.proofs.Common.{◌≡◌, Err, ap, sym, ◌∙◌, arith}
 use Rattle.std.proofs.lemmas.Result.{err_from_is_err_and}
 use Rattle.pol_report.specs.Tokens.{counted, one, as_number}
-use Rattle.pol_report.specs.Reading.{Took, itself, behind}
-use Rattle.pol_report.proofs.CountLemmas.{counted-next, counted-refused, counted-done, refused_part}
+use Rattle.pol_report.specs.Reading.{itself}
+use Rattle.pol_report.proofs.CountLemmas.{counted-next, counted-refused, refused_part}
 use Rattle.pol_report.proofs.taking.take_numbers.Goals as goal
 
 pub returns-in_err-take_number : goal.returns-in_err-take_number

@@ -1,4 +1,4 @@
-use Rattle.std.proofs.Common.{◌≡◌, ◌-◌, ◌≤◌, length}
+use Rattle.std.proofs.Common.{◌≡◌, ◌-◌}
 use Rattle.pol_report.specs.Tokens.{counted, one, as_number}
 use Rattle.pol_report.specs.Reading.{behind}
 use Rattle.pol_report.proofs.taking.take_numbers.Given as goal

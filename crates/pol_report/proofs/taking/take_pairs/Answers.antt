@@ -3,8 +3,8 @@ use Rattle.pol_nogood.specs.Nogoods.{Pair}
 use Rattle.std.proofs.lemmas.Result.{err_from_is_err_and}
 use Rattle.pol_report.specs.Tokens.{counted}
 use Rattle.pol_report.specs.Certificates.{pair_from}
-use Rattle.pol_report.specs.Reading.{Took, itself, pair_named, behind}
-use Rattle.pol_report.proofs.CountLemmas.{counted-next, counted-refused, counted-done, refused_part, told_true}
+use Rattle.pol_report.specs.Reading.{itself, pair_named}
+use Rattle.pol_report.proofs.CountLemmas.{counted-next, counted-refused, refused_part, told_true}
 use Rattle.pol_report.proofs.taking.take_pairs.Goals as goal
 
 pub returns-in_err-variable : goal.returns-in_err-variable

@@ -1,4 +1,4 @@
-use Rattle.std.proofs.Common.{◌≡◌, ◌-◌, ◌≤◌, length}
+use Rattle.std.proofs.Common.{◌≡◌, ◌-◌, length}
 use Rattle.pol_report.specs.Tokens.{counted}
 use Rattle.pol_report.specs.Certificates.{pair_from}
 use Rattle.pol_report.specs.Reading.{behind}
