@@ -19,7 +19,8 @@ place_of Affine = 5
 place_of Maltsev = 6
 
 -- the lines of the first n classes for the language were found; that of the set functions from the first class on,
--- since the lines of `constant` and `semilattice` ask for it, and that of `maltsev` with that of `nu4`, which asks for it
+-- since the lines of `constant` and `semilattice` ask for it, and that of `maltsev` with that of `nu4`, which asks
+-- for it
 pub record AreFound (lang : LanguageView) (n : ℕ) (classes : Classes) : Type 0 where
   pub constant : 1 ≤ n → ClassLine Constant lang (line_in classes Constant)
   pub semilattice : 2 ≤ n → ClassLine Semilattice lang (line_in classes Semilattice)
