@@ -1,8 +1,6 @@
 -- The equations of the constraints of an instance, over their scopes and over the variables.
-use Rattle.std.specs.Prelude.{◌==◌, ℕ, zero, suc, ◌%◌, ◌<◌, List, [], ◌∷◌, ◌++◌, length, map}
-use Rattle.std.specs.Prelude.{All, slice_index_or}
-use Rattle.std.specs.Prelude.{if◌then◌else◌}
-use Rattle.std.specs.Prelude.{◌≡◌}
+use Rattle.std.specs.Prelude.{◌==◌, ℕ, zero, suc, ◌%◌, ◌<◌, List, [], ◌∷◌, ◌++◌}
+use Rattle.std.specs.Prelude.{length, map, All, slice_index_or, if◌then◌else◌, ◌≡◌}
 use Rattle.std.specs.List.{range_with_len}
 use Rattle.pol_relation.specs.Relations.{LanguageView, relation_of}
 use Rattle.pol_relation.specs.Instances.{InstanceView, constraint_of}

@@ -1,6 +1,6 @@
 -- Arc consistency of masks: one mask of values for each variable.
-use Rattle.std.specs.Prelude.{◌≡◌, ◌≢◌, ◌<◌, ◌^◌, ℕ, List, length, slice_index, All, Contains}
-use Rattle.std.specs.Prelude.{IsBitSet}
+use Rattle.std.specs.Prelude.{◌≡◌, ◌≢◌, ◌<◌, ◌^◌, ℕ, List}
+use Rattle.std.specs.Prelude.{length, slice_index, All, Contains, IsBitSet}
 use Rattle.pol_relation.specs.Relations.{LanguageView, rows_of}
 use Rattle.pol_relation.specs.Instances.{InstanceView, constraint_of}
 

@@ -1,6 +1,6 @@
 -- Plain lists among lists: names among names, tuples among rows.
-use Rattle.std.specs.Prelude.{ℕ, Bool, List, [], ◌+◌, ◌∷◌, Option, Some, None, option_map, nat_eq}
-use Rattle.std.specs.Prelude.{if◌then◌else◌}
+use Rattle.std.specs.Prelude.{ℕ, Bool, List, [], ◌+◌, ◌∷◌, Option}
+use Rattle.std.specs.Prelude.{Some, None, option_map, nat_eq, if◌then◌else◌}
 use Rattle.std.specs.List.{list_any}
 use Rattle.std.specs.Cmp.Lexicographic.{pointwise}
 

@@ -1,6 +1,6 @@
 -- Masks: sets of values as numbers, and the values that are still open to each of several cells.
-use Rattle.std.specs.Prelude.{◌≡◌, ℕ, ◌^◌, ◌<◌, List, [], ◌∷◌, length, map, slice_index, bit_or}
-use Rattle.std.specs.Prelude.{IsBitSet, All}
+use Rattle.std.specs.Prelude.{◌≡◌, ℕ, ◌^◌, ◌<◌, List, [], ◌∷◌}
+use Rattle.std.specs.Prelude.{length, map, slice_index, bit_or, IsBitSet, All}
 
 -- the set of the values: the bit of weight 2 ^ v stands for v
 abbrev pub mask_of : List ℕ → ℕ

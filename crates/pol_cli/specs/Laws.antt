@@ -1,8 +1,7 @@
 -- What a reader of a report, of verdicts and of a run may rely on.
-use Rattle.std.specs.Prelude.{◌≡◌, ℕ, ◌+◌, ◌<◌, ◌≤◌, ◌⊎◌, ◌↔◌, List, [], ◌∷◌}
-use Rattle.std.specs.Prelude.{◌++◌, length, Option, Some, None, Ok}
-use Rattle.std.specs.Prelude.{Err, ⊤, Any}
-use Rattle.std.specs.Prelude.{IsSomeAnd, slice_get, slice_index_or}
+use Rattle.std.specs.Prelude.{◌≡◌, ℕ, ◌+◌, ◌<◌, ◌≤◌, ◌⊎◌}
+use Rattle.std.specs.Prelude.{◌↔◌, List, [], ◌∷◌, ◌++◌, length, Option, Some}
+use Rattle.std.specs.Prelude.{None, Ok, Err, ⊤, Any, IsSomeAnd, slice_get, slice_index_or}
 use Rattle.pol_base.specs.declared.class_name.ClassName.{ClassName}
 use Rattle.pol_base.specs.declared.class_name.ClassName.TheVariants.{Constant, Affine, Maltsev}
 use Rattle.pol_text.specs.declared.refusal.Refusal.{Refusal}

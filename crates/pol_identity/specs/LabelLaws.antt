@@ -1,7 +1,7 @@
 -- Labellings: a value has one label, and a label one value.
-use Rattle.std.proofs.Common.{◌≡◌, ℕ, zero, suc, ◌<◌, ◌⊎◌, inl, inr, Bool, true, false, List, []}
-use Rattle.std.proofs.Common.{◌∷◌, length, All}
-use Rattle.std.proofs.Common.{AllPairs, Contains, get_or, sym, ◌∙◌, subst, refl, arith}
+use Rattle.std.proofs.Common.{◌≡◌, ℕ, zero, suc, ◌<◌, ◌⊎◌, inl, inr}
+use Rattle.std.proofs.Common.{Bool, true, false, List, [], ◌∷◌, length, All, AllPairs}
+use Rattle.std.proofs.Common.{Contains, get_or, sym, ◌∙◌, subst, refl, arith}
 use Rattle.std.specs.Prelude.{◌==◌, ◌≢◌}
 use Rattle.std.specs.List.{range_with_len}
 use Rattle.std.proofs.lemmas.Bool.{cases_order, true≢false}

@@ -1,7 +1,6 @@
 -- Mal'tsev operations obey their rules.
-use Rattle.std.proofs.Common.{◌≡◌, ℕ, ◌^◌, ◌<◌, ◌≤◌, List, [], ◌∷◌, subst, refl, Bool}
-use Rattle.std.proofs.Common.{true, false, cond, All}
-use Rattle.std.proofs.Common.{slice_index, lit<}
+use Rattle.std.proofs.Common.{◌≡◌, ℕ, ◌^◌, ◌<◌, ◌≤◌, List, [], ◌∷◌}
+use Rattle.std.proofs.Common.{subst, refl, Bool, true, false, cond, All, slice_index, lit<}
 use Rattle.std.specs.Prelude.{◌==◌}
 use Rattle.std.proofs.lemmas.Bool.Decides.{Decides-eqb}
 use Rattle.pol_base.specs.Tuples.{cell_of, digits_of}

@@ -1,7 +1,6 @@
 -- Semilattice operations obey their rules.
-use Rattle.std.proofs.Common.{◌≡◌, ℕ, ◌^◌, ◌<◌, ◌≤◌, List, [], ◌∷◌, subst, refl, Bool}
-use Rattle.std.proofs.Common.{true, false, cond, All}
-use Rattle.std.proofs.Common.{slice_index, lit<, inl}
+use Rattle.std.proofs.Common.{◌≡◌, ℕ, ◌^◌, ◌<◌, ◌≤◌, List, [], ◌∷◌}
+use Rattle.std.proofs.Common.{subst, refl, Bool, true, false, cond, All, slice_index, lit<, inl}
 use Rattle.std.specs.Prelude.{◌==◌, nat_lt}
 use Rattle.std.proofs.lemmas.Bool.Decides.{Decides-eqb, Decides-ltb}
 use Rattle.std.proofs.lemmas.List.Elements.{All-cons, All-nil}

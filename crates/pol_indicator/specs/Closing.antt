@@ -1,6 +1,6 @@
 -- The operations that satisfy an identity and preserve a language, as lists of cells that are sought.
-use Rattle.std.specs.Prelude.{◌≡◌, ◌<◌, ◌≤◌, ◌⊎◌, ◌^◌, ℕ, List, length, map, slice_index}
-use Rattle.std.specs.Prelude.{All, Contains}
+use Rattle.std.specs.Prelude.{◌≡◌, ◌<◌, ◌≤◌, ◌⊎◌, ◌^◌}
+use Rattle.std.specs.Prelude.{ℕ, List, length, map, slice_index, All, Contains}
 use Rattle.pol_relation.specs.Relations.{LanguageView, RelationView, relation_of}
 use Rattle.pol_relation.specs.Instances.{ConstraintView}
 use Rattle.pol_optable.specs.Operations.{Operation}

@@ -1,7 +1,6 @@
 -- Files: a language within the limits, and instances over it.
-use Rattle.std.specs.Prelude.{◌≡◌, ◌≢◌, ◌≤◌, ◌<◌, ◌-◌, ℕ, true, List, [], ◌∷◌}
-use Rattle.std.specs.Prelude.{◌++◌, length, map, slice_index_or, All}
-use Rattle.std.specs.Prelude.{AllPairs, Contains}
+use Rattle.std.specs.Prelude.{◌≡◌, ◌≢◌, ◌≤◌, ◌<◌, ◌-◌, ℕ, true, List, []}
+use Rattle.std.specs.Prelude.{◌∷◌, ◌++◌, length, map, slice_index_or, All, AllPairs, Contains}
 use Rattle.pol_relation.specs.Relations.{LanguageView, IsLanguage, with_relation}
 use Rattle.pol_relation.specs.Weights.{weight_of, subset_weight_of, most_weight}
 use Rattle.pol_relation.specs.Instances.{InstanceView, IsInstance, Fits, ConstraintView, with_constraint}

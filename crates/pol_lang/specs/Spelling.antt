@@ -1,7 +1,6 @@
 -- How a file is spelled: the tokens of the lines that say it, in a reader's terms.
-use Rattle.std.specs.Prelude.{◌≡◌, ℕ, List, [], map, Some, ◌∷◌, codes, true, All, Any, slice_index_or}
-use Rattle.std.specs.Prelude.{◌+◌, ◌++◌}
-use Rattle.std.specs.Prelude.{flat_map}
+use Rattle.std.specs.Prelude.{◌≡◌, ℕ, List, [], map, Some, ◌∷◌, codes}
+use Rattle.std.specs.Prelude.{true, All, Any, slice_index_or, ◌+◌, ◌++◌, flat_map}
 use Rattle.std.specs.List.{AllZip}
 use Rattle.pol_text.specs.Lines.{number_of, is_name, LineView}
 use Rattle.pol_relation.specs.Relations.{LanguageView, name_of, NamedRelation}

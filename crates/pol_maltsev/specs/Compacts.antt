@@ -1,6 +1,6 @@
 -- Compact representations, after Bulatov and Dalmau, and what a solver by them answers.
-use Rattle.std.specs.Prelude.{◌≡◌, ◌≤◌, ◌+◌, ℕ, List, length, map, slice_index, All, AllPairs}
-use Rattle.std.specs.Prelude.{Contains}
+use Rattle.std.specs.Prelude.{◌≡◌, ◌≤◌, ◌+◌, ℕ, List, length}
+use Rattle.std.specs.Prelude.{map, slice_index, All, AllPairs, Contains}
 use Rattle.pol_base.specs.Tuples.{IsBefore}
 use Rattle.pol_relation.specs.Relations.{LanguageView}
 use Rattle.pol_relation.specs.Instances.{InstanceView, read_at}

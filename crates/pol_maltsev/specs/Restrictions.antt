@@ -1,7 +1,6 @@
 -- What is made of a table where its set shrinks to the members that some first places decide.
-use Rattle.std.specs.Prelude.{◌≡◌, ◌<◌, ℕ, List, [], ◌∷◌, slice_index, slice_index_or, length, All}
-use Rattle.std.specs.Prelude.{Contains}
-use Rattle.std.specs.Prelude.{if◌then◌else◌, ◌==◌}
+use Rattle.std.specs.Prelude.{◌≡◌, ◌<◌, ℕ, List, [], ◌∷◌, slice_index}
+use Rattle.std.specs.Prelude.{slice_index_or, length, All, Contains, if◌then◌else◌, ◌==◌}
 use Rattle.pol_relation.specs.Instances.{read_at}
 use Rattle.pol_optable.specs.Operations.{Operation, value_at}
 use Rattle.pol_maltsev.specs.Representations.{ReadsRow}

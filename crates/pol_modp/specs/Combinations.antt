@@ -1,6 +1,6 @@
 -- Combinations: equations on the labels of what constraints read, and the sum of their multiples.
-use Rattle.std.specs.Prelude.{◌==◌, ℕ, ◌+◌, ◌*◌, List, [], ◌∷◌, map, slice_index}
-use Rattle.std.specs.Prelude.{if◌then◌else◌}
+use Rattle.std.specs.Prelude.{◌==◌, ℕ, ◌+◌, ◌*◌, List, []}
+use Rattle.std.specs.Prelude.{◌∷◌, map, slice_index, if◌then◌else◌}
 use Rattle.std.specs.List.{sum_by}
 use Rattle.pol_relation.specs.Relations.{LanguageView, relation_of, rows_of}
 use Rattle.pol_relation.specs.Instances.{InstanceView, constraint_of}

@@ -1,7 +1,6 @@
 -- The equations that rows meet: rows as equations on the numbers of an equation, and their solutions.
-use Rattle.std.specs.Prelude.{◌≡◌, ◌≢◌, ℕ, ◌+◌, ◌-◌, ◌%◌, ◌<◌, ◌≤◌, List, []}
-use Rattle.std.specs.Prelude.{◌∷◌, ◌++◌, length, slice_index, All}
-use Rattle.std.specs.Prelude.{Contains}
+use Rattle.std.specs.Prelude.{◌≡◌, ◌≢◌, ℕ, ◌+◌, ◌-◌, ◌%◌, ◌<◌, ◌≤◌}
+use Rattle.std.specs.Prelude.{List, [], ◌∷◌, ◌++◌, length, slice_index, All, Contains}
 use Rattle.pol_modp.specs.Equations.{EquationView, IsEquation}
 use Rattle.pol_modp.specs.Rows.{PivotView, AllVanish, whole}
 

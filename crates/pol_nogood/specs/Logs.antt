@@ -1,7 +1,6 @@
 -- Logs: steps by constraints and by variables, and the cases of a step.
-use Rattle.std.specs.Prelude.{◌≢◌, ◌==◌, Bool, not, ◌||◌, ℕ, ◌≤◌, ◌-◌, List, [], ◌∷◌}
-use Rattle.std.specs.Prelude.{◌++◌, length, map}
-use Rattle.std.specs.Prelude.{filter, slice_index_or, All, AllPairs}
+use Rattle.std.specs.Prelude.{◌≢◌, ◌==◌, Bool, not, ◌||◌, ℕ, ◌≤◌, ◌-◌, List}
+use Rattle.std.specs.Prelude.{[], ◌∷◌, ◌++◌, length, map, filter, slice_index_or, All, AllPairs}
 use Rattle.std.specs.List.{list_all, range_with_len}
 use Rattle.pol_relation.specs.Relations.{LanguageView, rows_of}
 use Rattle.pol_relation.specs.Instances.{InstanceView, constraint_of}

@@ -1,6 +1,6 @@
 -- How the needed steps of a log are found and copied: marks of steps, and new numbers for references.
-use Rattle.std.specs.Prelude.{◌≡◌, ◌↔◌, ◌⊎◌, Bool, true, false, ℕ, ◌<◌, List, length, map}
-use Rattle.std.specs.Prelude.{slice_index_or, Contains}
+use Rattle.std.specs.Prelude.{◌≡◌, ◌↔◌, ◌⊎◌, Bool, true, false, ℕ}
+use Rattle.std.specs.Prelude.{◌<◌, List, length, map, slice_index_or, Contains}
 use Rattle.pol_nogood.specs.Logs.{StepView}
 use Rattle.pol_nogood.specs.Trims.{IsNeeded}
 

@@ -1,7 +1,6 @@
 -- Valid steps and logs, and the first fault of a log, in the field's words.
-use Rattle.std.specs.Prelude.{◌≡◌, ◌≢◌, ◌⊎◌, ℕ, ◌<◌, ◌≤◌, List, [], ◌++◌, length}
-use Rattle.std.specs.Prelude.{take, slice_index}
-use Rattle.std.specs.Prelude.{slice_index_or, All, Any}
+use Rattle.std.specs.Prelude.{◌≡◌, ◌≢◌, ◌⊎◌, ℕ, ◌<◌, ◌≤◌, List}
+use Rattle.std.specs.Prelude.{[], ◌++◌, length, take, slice_index, slice_index_or, All, Any}
 use Rattle.pol_relation.specs.Relations.{LanguageView}
 use Rattle.pol_relation.specs.Instances.{InstanceView}
 use Rattle.pol_nogood.specs.declared.checking.Why.{Why}

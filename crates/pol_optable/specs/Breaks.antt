@@ -1,7 +1,6 @@
 -- The rows of a relation of which an operation makes no row.
-use Rattle.std.specs.Prelude.{◌≡◌, ◌<◌, ℕ, ◌+◌, ◌-◌, ◌/◌, List, [], ◌∷◌, ◌++◌}
-use Rattle.std.specs.Prelude.{length, take, drop, map, slice_index}
-use Rattle.std.specs.Prelude.{slice_index_or, Contains}
+use Rattle.std.specs.Prelude.{◌≡◌, ◌<◌, ℕ, ◌+◌, ◌-◌, ◌/◌, List, [], ◌∷◌}
+use Rattle.std.specs.Prelude.{◌++◌, length, take, drop, map, slice_index, slice_index_or, Contains}
 use Rattle.pol_base.specs.Tuples.{IsTuple, IsBefore, cell_of}
 use Rattle.pol_relation.specs.Relations.{RelationView}
 use Rattle.pol_optable.specs.Operations.{Operation, image}

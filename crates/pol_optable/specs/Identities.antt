@@ -1,7 +1,6 @@
 -- The identities of the classes of operations.
-use Rattle.std.specs.Prelude.{◌≡◌, ◌≢◌, ℕ, ◌+◌, ◌-◌, ◌%◌, ◌<◌, ◌≤◌, ◌==◌}
-use Rattle.std.specs.Prelude.{◌⊎◌, List, [], ◌∷◌, slice_index, count_by}
-use Rattle.std.specs.Prelude.{AllPairs}
+use Rattle.std.specs.Prelude.{◌≡◌, ◌≢◌, ℕ, ◌+◌, ◌-◌, ◌%◌, ◌<◌, ◌≤◌}
+use Rattle.std.specs.Prelude.{◌==◌, ◌⊎◌, List, [], ◌∷◌, slice_index, count_by, AllPairs}
 use Rattle.pol_base.specs.Tuples.{IsTuple}
 use Rattle.pol_optable.specs.Operations.{Operation, value_at}
 

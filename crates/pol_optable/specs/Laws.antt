@@ -1,7 +1,6 @@
 -- What a reader of class lines may rely on.
-use Rattle.std.specs.Prelude.{◌≡◌, ◌<◌, ◌↔◌, ℕ, ◌^◌, ◌-◌, length, List, [], ◌∷◌}
-use Rattle.std.specs.Prelude.{replicate, slice_index, Option, Some}
-use Rattle.std.specs.Prelude.{None, All}
+use Rattle.std.specs.Prelude.{◌≡◌, ◌<◌, ◌↔◌, ℕ, ◌^◌, ◌-◌, length, List}
+use Rattle.std.specs.Prelude.{[], ◌∷◌, replicate, slice_index, Option, Some, None, All}
 use Rattle.pol_base.specs.declared.class_name.ClassName.{ClassName}
 use Rattle.pol_base.specs.declared.class_name.ClassName.TheVariants.{Constant, Semilattice, SetFunction, Majority}
 use Rattle.pol_base.specs.declared.class_name.ClassName.TheVariants.{Nu4, Affine, Maltsev}

@@ -1,6 +1,6 @@
 -- Operations on a domain, and which relations they preserve.
-use Rattle.std.specs.Prelude.{ℕ, List, ◌≡◌, ◌^◌, ◌<◌, ◌≤◌, length, All, slice_index, map}
-use Rattle.std.specs.Prelude.{Contains}
+use Rattle.std.specs.Prelude.{ℕ, List, ◌≡◌, ◌^◌, ◌<◌, ◌≤◌}
+use Rattle.std.specs.Prelude.{length, All, slice_index, map, Contains}
 use Rattle.std.specs.List.{range_with_len}
 use Rattle.pol_base.specs.Tuples.{cell_of}
 use Rattle.pol_relation.specs.Relations.{RelationView, LanguageView}

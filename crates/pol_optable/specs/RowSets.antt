@@ -1,7 +1,6 @@
 -- The rows of a relation as a set of cells.
-use Rattle.std.specs.Prelude.{◌≡◌, ◌↔◌, ◌<◌, ◌≤◌, ◌/◌, ◌^◌, ℕ, List, [], length, take}
-use Rattle.std.specs.Prelude.{drop, Bool, true, false}
-use Rattle.std.specs.Prelude.{slice_index, slice_index_or, All, Contains}
+use Rattle.std.specs.Prelude.{◌≡◌, ◌↔◌, ◌<◌, ◌≤◌, ◌/◌, ◌^◌, ℕ, List, []}
+use Rattle.std.specs.Prelude.{length, take, drop, Bool, true, false, slice_index, slice_index_or, All, Contains}
 use Rattle.pol_base.specs.Tuples.{IsTuple, cell_of}
 use Rattle.pol_relation.specs.Relations.{RelationView}
 

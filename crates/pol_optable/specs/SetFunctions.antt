@@ -1,6 +1,6 @@
 -- Set functions, and which relations they preserve.
-use Rattle.std.specs.Prelude.{◌≡◌, ℕ, ◌-◌, ◌^◌, ◌<◌, ◌≤◌, List, length, map, slice_index}
-use Rattle.std.specs.Prelude.{All, Contains}
+use Rattle.std.specs.Prelude.{◌≡◌, ℕ, ◌-◌, ◌^◌, ◌<◌, ◌≤◌}
+use Rattle.std.specs.Prelude.{List, length, map, slice_index, All, Contains}
 use Rattle.std.specs.List.{range_with_len}
 use Rattle.pol_base.specs.Masks.{mask_of}
 use Rattle.pol_relation.specs.Relations.{RelationView, LanguageView}

@@ -1,7 +1,6 @@
 -- Sets of rows of a relation: the bit i % 128 of word i / 128 stands for row i.
-use Rattle.std.specs.Prelude.{◌≡◌, ◌↔◌, ◌<◌, ◌≤◌, ◌+◌, ◌*◌, ◌/◌, ◌%◌, ℕ, List}
-use Rattle.std.specs.Prelude.{[], length, map, IsBitSet}
-use Rattle.std.specs.Prelude.{slice_index, slice_index_or}
+use Rattle.std.specs.Prelude.{◌≡◌, ◌↔◌, ◌<◌, ◌≤◌, ◌+◌, ◌*◌, ◌/◌}
+use Rattle.std.specs.Prelude.{◌%◌, ℕ, List, [], length, map, IsBitSet, slice_index, slice_index_or}
 use Rattle.pol_base.specs.Masks.{AreMasks}
 use Rattle.pol_relation.specs.Relations.{RelationView}
 use Rattle.pol_optable.specs.SetFunctions.{SetFunctionView, value_of_set}

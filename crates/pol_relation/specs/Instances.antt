@@ -1,7 +1,6 @@
 -- Constraint instances over a language, and their solutions.
-use Rattle.std.specs.Prelude.{ℕ, List, [], ◌<◌, ◌≤◌, length, All, ◌≢◌, AllPairs, ◌≡◌}
-use Rattle.std.specs.Prelude.{slice_index_or, map}
-use Rattle.std.specs.Prelude.{slice_index, Contains, ◌∷◌, ◌++◌}
+use Rattle.std.specs.Prelude.{ℕ, List, [], ◌<◌, ◌≤◌, length, All, ◌≢◌, AllPairs}
+use Rattle.std.specs.Prelude.{◌≡◌, slice_index_or, map, slice_index, Contains, ◌∷◌, ◌++◌}
 use Rattle.pol_relation.specs.Relations.{LanguageView, relation_of, rows_of}
 use Rattle.pol_base.specs.Tuples.{IsTuple}
 

@@ -1,7 +1,7 @@
 -- Relations and constraint languages.
-use Rattle.std.specs.Prelude.{ℕ, List, [], ◌≤◌, All, AllPairs, ◌≡◌, ◌≢◌, slice_index_or, ◌-◌}
-use Rattle.std.specs.Prelude.{length, map, ◌∷◌}
-use Rattle.std.specs.Prelude.{if◌then◌else◌, ◌++◌, zero, suc, take, drop, ◌↔◌, Contains}
+use Rattle.std.specs.Prelude.{ℕ, List, [], ◌≤◌, All, AllPairs, ◌≡◌, ◌≢◌}
+use Rattle.std.specs.Prelude.{slice_index_or, ◌-◌, length, map, ◌∷◌, if◌then◌else◌}
+use Rattle.std.specs.Prelude.{◌++◌, zero, suc, take, drop, ◌↔◌, Contains}
 use Rattle.std.specs.Cmp.Lexicographic.{slice_cmp}
 use Rattle.std.specs.Ordering.{nat_cmp, is_lt, is_eq}
 use Rattle.pol_base.specs.Tuples.{IsDomain, IsTuple, IsBefore}

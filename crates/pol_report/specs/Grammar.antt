@@ -1,7 +1,6 @@
 -- The grammar of reports: which texts are accepted, as which items, and the first refusal of every other text.
-use Rattle.std.specs.Prelude.{ℕ, zero, suc, ◌+◌, ◌-◌, ◌==◌, true, false, if◌then◌else◌, List, []}
-use Rattle.std.specs.Prelude.{◌∷◌, length, Result}
-use Rattle.std.specs.Prelude.{Ok, Err, codes}
+use Rattle.std.specs.Prelude.{ℕ, zero, suc, ◌+◌, ◌-◌, ◌==◌, true, false}
+use Rattle.std.specs.Prelude.{if◌then◌else◌, List, [], ◌∷◌, length, Result, Ok, Err, codes}
 use Rattle.pol_text.specs.Lines.{LineView, lines_of, significant_lines, token_at, number_of}
 use Rattle.pol_text.specs.Reading.{unless, after_number, after_line, begins_with, end_line}
 use Rattle.pol_text.specs.declared.refusal.Refusal.{Refusal}

@@ -1,6 +1,6 @@
 -- How the first line of an item is read: it is the whole item, or says what the lines behind it have to be.
-use Rattle.std.specs.Prelude.{ℕ, Bool, true, false, ◌&&◌, if◌then◌else◌, List, [], ◌∷◌, Result, Ok}
-use Rattle.std.specs.Prelude.{Err, codes}
+use Rattle.std.specs.Prelude.{ℕ, Bool, true, false, ◌&&◌, if◌then◌else◌}
+use Rattle.std.specs.Prelude.{List, [], ◌∷◌, Result, Ok, Err, codes}
 use Rattle.pol_base.specs.declared.class_name.ClassName.{ClassName}
 use Rattle.pol_base.specs.declared.class_name.ClassName.TheVariants.{Nu4, Affine, Maltsev}
 use Rattle.pol_base.specs.Lists.{is_same}
@@ -15,8 +15,8 @@ use Rattle.pol_report.specs.declared.opening.Subject.TheVariants as subject
 use Rattle.pol_report.specs.declared.opening.Answer.{Answer}
 use Rattle.pol_report.specs.declared.opening.Answer.TheVariants as answer
 use Rattle.pol_report.specs.Limits.{most_parts}
-use Rattle.pol_report.specs.Tokens.{after, one, to_end, some_to_end, nothing_left, as_value, as_count, as_name}
-use Rattle.pol_report.specs.Tokens.{as_class}
+use Rattle.pol_report.specs.Tokens.{after, one, to_end, some_to_end, nothing_left}
+use Rattle.pol_report.specs.Tokens.{as_value, as_count, as_name, as_class}
 
 -- ---- lines of classes
 

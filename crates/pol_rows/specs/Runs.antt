@@ -1,6 +1,6 @@
 -- Runs of rows that agree before a place, among rows in ascending order.
-use Rattle.std.specs.Prelude.{◌≡◌, ℕ, ◌≤◌, List, length, take, drop, slice_index, Contains, Option}
-use Rattle.std.specs.Prelude.{MatchOption}
+use Rattle.std.specs.Prelude.{◌≡◌, ℕ, ◌≤◌, List, length, take}
+use Rattle.std.specs.Prelude.{drop, slice_index, Contains, Option, MatchOption}
 use Rattle.pol_rows.specs.RowLists.{row_of}
 
 -- the number is listed, and its row has the value at the place

@@ -1,6 +1,6 @@
 -- Constraints on the cells of a set function, each for the sets of values at the places of some rows.
-use Rattle.std.specs.Prelude.{◌≡◌, ◌-◌, ◌<◌, ◌≤◌, ◌⊎◌, ℕ, List, length, take, map, All}
-use Rattle.std.specs.Prelude.{Contains}
+use Rattle.std.specs.Prelude.{◌≡◌, ◌-◌, ◌<◌, ◌≤◌, ◌⊎◌}
+use Rattle.std.specs.Prelude.{ℕ, List, length, take, map, All, Contains}
 use Rattle.pol_base.specs.Tuples.{IsBefore}
 use Rattle.pol_relation.specs.Relations.{LanguageView, relation_of}
 use Rattle.pol_relation.specs.Instances.{ConstraintView}

@@ -1,8 +1,7 @@
 -- Families of partial assignments. A part is an assignment with a list of the variables that count: what it gives the
 -- others is of no matter. A family says which parts are kept.
-use Rattle.std.specs.Prelude.{◌≡◌, ◌≤◌, ◌<◌, ℕ, zero, suc, List, [], ◌∷◌, length, map}
-use Rattle.std.specs.Prelude.{slice_index, slice_set, All}
-use Rattle.std.specs.Prelude.{Contains}
+use Rattle.std.specs.Prelude.{◌≡◌, ◌≤◌, ◌<◌, ℕ, zero, suc, List, []}
+use Rattle.std.specs.Prelude.{◌∷◌, length, map, slice_index, slice_set, All, Contains}
 use Rattle.pol_base.specs.Tuples.{IsTuple}
 use Rattle.pol_relation.specs.Relations.{LanguageView, rows_of}
 use Rattle.pol_relation.specs.Instances.{InstanceView, constraint_of}

@@ -1,7 +1,6 @@
 -- What is deleted, and when nothing is left to delete.
-use Rattle.std.specs.Prelude.{◌≡◌, ◌≢◌, ℕ, ◌+◌, ◌-◌, ◌<◌, ◌≤◌, ◌^◌, List, []}
-use Rattle.std.specs.Prelude.{◌++◌, length}
-use Rattle.std.specs.Prelude.{slice_index, All, IsBitSet}
+use Rattle.std.specs.Prelude.{◌≡◌, ◌≢◌, ℕ, ◌+◌, ◌-◌, ◌<◌, ◌≤◌}
+use Rattle.std.specs.Prelude.{◌^◌, List, [], ◌++◌, length, slice_index, All, IsBitSet}
 use Rattle.std.specs.List.{remove}
 use Rattle.pol_relation.specs.Relations.{LanguageView}
 use Rattle.pol_relation.specs.Instances.{InstanceView}

@@ -1,7 +1,6 @@
 -- Lines, tokens, numbers and names of a text.
 use Rattle.std.specs.Prelude.{ℕ, List, [], ◌∷◌, ◌==◌, if◌then◌else◌, Bool, ◌||◌, false, not}
-use Rattle.std.specs.Prelude.{◌+◌, length}
-use Rattle.std.specs.Prelude.{slice_index_or, nat_le, ◌&&◌, ◌-◌, map, Option, Some, None}
+use Rattle.std.specs.Prelude.{◌+◌, length, slice_index_or, nat_le, ◌&&◌, ◌-◌, map, Option, Some, None}
 use Rattle.std.specs.List.{list_all}
 use Rattle.pol_base.specs.Tuples.{cell_of}
 

@@ -1,6 +1,6 @@
 -- The words in which a reader of lines speaks.
-use Rattle.std.specs.Prelude.{◌≡◌, ◌==◌, Bool, Result, Err, if◌then◌else◌, ℕ, Option, Some, None}
-use Rattle.std.specs.Prelude.{List, length, Ok, ⊤}
+use Rattle.std.specs.Prelude.{◌≡◌, ◌==◌, Bool, Result, Err, if◌then◌else◌}
+use Rattle.std.specs.Prelude.{ℕ, Option, Some, None, List, length, Ok, ⊤}
 use Rattle.pol_base.specs.Lists.{is_same}
 use Rattle.pol_text.specs.Lines.{LineView, token_at}
 use Rattle.pol_text.specs.declared.word.Word.{Word}
