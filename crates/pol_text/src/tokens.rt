@@ -1,4 +1,4 @@
-ghost use Rattle.std.specs.Prelude.{◌≡◌, ◌≤◌, ◌++◌, ℕ, List, codes, length, drop, not, option_map, slice_get, OnErr, OnOk};
+ghost use Rattle.std.specs.Prelude.{◌≡◌, ◌≤◌, ◌++◌, ℕ, List, codes, length, drop, not, option_map, slice_get, Some, IfSome, OnErr, OnOk};
 ghost use Rattle.pol_outside.specs.Faults.{Rose};
 ghost use Rattle.std.specs.Iterator.{YieldsFirstBy, item_count};
 ghost use Rattle.std.specs.List.{position_or_len};
@@ -34,6 +34,20 @@ impl<'a> Tokens<'a> {
     pub fn next_number(&mut self) -> Option<Option<u32>>
         ensures next { (result ≡ option_map number_of (slice_get self.old 0)) × (self.new ≡ drop 1 self.old) }
     {
+        match lone_digit(self.rest) {
+            Some((value, rest)) => {
+                self.rest = rest;
+                Some(Some(value))
+            }
+            None => self.any_number(),
+        }
+    }
+
+    /// As `next_number`, whatever comes first.
+    #[inline(never)]
+    fn any_number(&mut self) -> Option<Option<u32>>
+        ensures next { (result ≡ option_map number_of (slice_get self.old 0)) × (self.new ≡ drop 1 self.old) }
+    {
         let (_, behind) = self.rest.split_at(blank_length(self.rest));
         if behind.is_empty() {
             return None;
@@ -66,6 +80,21 @@ impl<'a> Iterator for Tokens<'a> {
         self.rest = rest;
         Some(token)
     }
+}
+
+/// The number of a first token that is one digit behind one blank, as in a log most are, and what comes behind it.
+/// None also where another number comes first.
+fn lone_digit(text: &[u8]) -> Option<(u32, &[u8])>
+    ensures number { IfSome result (λ found. option_map number_of (slice_get (tokens_of text.now) 0) ≡ Some (Some found.0)) }
+    ensures rest { IfSome result (λ found. tokens_of found.1.now ≡ drop 1 (tokens_of text.now)) }
+{
+    let [blank, digit, rest @ ..] = text else {
+        return None;
+    };
+    if is_blank(*blank) && digit.is_ascii_digit() && !begins_solid(rest) {
+        return Some((u32::from(*digit - b'0'), rest));
+    }
+    None
 }
 
 /// How many blanks stand at the front.

@@ -4,8 +4,8 @@ use Rattle.std.proofs.lemmas.Bool.Decides.{nat_tests}
 use Rattle.pol_text.specs.Lines.{is_blank, begins_solid}
 use Rattle.pol_text.proofs.LineLemmas.{is_solid, tokens_of-none}
 use Rattle.pol_text.proofs.NumberLemmas.{number_next, other_next}
-use Rattle.pol_text.proofs.tokens.Tokens.next_number.Goals as goal
-use Rattle.pol_text.proofs.tokens.Tokens.next_number.Goals.{else-length-le-MOST_DIGITS-via-then-length-le-MOST_DIGITS+else-not-begins_solid, else-length-le-MOST_DIGITS-via-else-length-le-MOST_DIGITS}
+use Rattle.pol_text.proofs.tokens.Tokens.any_number.Goals as goal
+use Rattle.pol_text.proofs.tokens.Tokens.any_number.Goals.{else-length-le-MOST_DIGITS-via-then-length-le-MOST_DIGITS+else-not-begins_solid, else-length-le-MOST_DIGITS-via-else-length-le-MOST_DIGITS}
 
 pub returns-then-is_empty : goal.returns-then-is_empty
 returns-then-is_empty c =
