@@ -8,6 +8,13 @@ use std::test::Fail;
 const FILE: &[u8] =
     b"polyanna 1\ndomain 2\nrelation neq 2\ntuple 0 1\ntuple 1 0\nrelation zero 1\ntuple 0\ninstance p x y\nconstraint zero x\nconstraint neq x y\nend\n";
 
+/// Its report.
+const REPORT: &[u8] =
+    b"polyanna-report 1\nclass constant none\nclass semilattice none\nclass set-function none\nclass majority 0 0 0 1 0 1 1 1\nclass nu4 0 0 0 0 0 0 0 1 0 1 1 1 1 1 1 1\nclass affine 0 1 1 0 1 0 0 1\nclass maltsev 0 1 0 0 1 1 0 1\ninstance p yes majority 0 1\nend\n";
+
+/// As many reads as the file has bytes, and the one that finds its end.
+const READS: u32 = 136;
+
 const USAGE: &[u8] = b"usage: polyanna report | polyanna check | polyanna gen N\n";
 
 const UNKNOWN_WORDS: [&[&str]; 17] = [
@@ -69,6 +76,53 @@ fn faults_in_mid_stream(rt: HostRuntime) -> Result<(), Fail> {
         Ended::WriteFault
     );
     assert_eq!(rt; sink.bytes(), b"polyanna-r".as_slice());
+    Ok(())
+}
+
+/// With one byte a read, none of which fails, the report follows, and with one that fails nothing.
+#[test]
+fn every_read_that_fails(rt: HostRuntime) -> Result<(), Fail> {
+    let alloc = rt.alloc();
+    let words = words(alloc, &["report"])?;
+    for number in 0..=READS {
+        let failing = [number];
+        let mut source = MemorySource::new(FILE, 1, &failing);
+        let mut sink = MemorySink::new(alloc, 1024, 64, &[])?;
+        let (ended, text) = if number < READS {
+            (Ended::ReadFault, b"".as_slice())
+        } else {
+            (Ended::Done, REPORT)
+        };
+        assert_eq!(rt;
+            run(alloc, &words, &mut source, &mut sink),
+            ended,
+            "at {number}"
+        );
+        assert_eq!(rt; sink.bytes(), text, "at {number}");
+    }
+    Ok(())
+}
+
+/// A sink that takes one byte a write, and as many as there is room for.
+#[test]
+fn every_write_that_fails(rt: HostRuntime) -> Result<(), Fail> {
+    let alloc = rt.alloc();
+    let words = words(alloc, &["report"])?;
+    for room in 0..=REPORT.len() {
+        let mut source = CalmSource::new(FILE, 7);
+        let mut sink = MemorySink::new(alloc, room, 1, &[])?;
+        let ended = if room < REPORT.len() {
+            Ended::WriteFault
+        } else {
+            Ended::Done
+        };
+        assert_eq!(rt;
+            run(alloc, &words, &mut source, &mut sink),
+            ended,
+            "at {room}"
+        );
+        assert_eq!(rt; sink.bytes(), &REPORT[..room], "at {room}");
+    }
     Ok(())
 }
 
