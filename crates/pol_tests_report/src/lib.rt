@@ -10,4 +10,6 @@ mod printing;
 #[cfg(test)]
 mod reading;
 #[cfg(test)]
+mod sending;
+#[cfg(test)]
 mod verdicts;
