@@ -15,6 +15,9 @@ const REPORT: &[u8] =
 /// As many reads as the file has bytes, and the one that finds its end.
 const READS: u32 = 136;
 
+/// As many writes as the report has bytes.
+const WRITES: u32 = 249;
+
 const USAGE: &[u8] = b"usage: polyanna report | polyanna check | polyanna gen N\n";
 
 const UNKNOWN_WORDS: [&[&str]; 17] = [
@@ -103,15 +106,17 @@ fn every_read_that_fails(rt: HostRuntime) -> Result<(), Fail> {
     Ok(())
 }
 
-/// A sink that takes one byte a write, and as many as there is room for.
+/// With one byte a write, those before the one that fails are written, and none behind it.
 #[test]
 fn every_write_that_fails(rt: HostRuntime) -> Result<(), Fail> {
     let alloc = rt.alloc();
     let words = words(alloc, &["report"])?;
-    for room in 0..=REPORT.len() {
+    assert_eq!(rt; REPORT.len(), WRITES as usize);
+    for number in 0..=WRITES {
+        let failing = [number];
         let mut source = CalmSource::new(FILE, 7);
-        let mut sink = MemorySink::new(alloc, room, 1, &[])?;
-        let ended = if room < REPORT.len() {
+        let mut sink = MemorySink::new(alloc, 1024, 1, &failing)?;
+        let ended = if number < WRITES {
             Ended::WriteFault
         } else {
             Ended::Done
@@ -119,9 +124,13 @@ fn every_write_that_fails(rt: HostRuntime) -> Result<(), Fail> {
         assert_eq!(rt;
             run(alloc, &words, &mut source, &mut sink),
             ended,
-            "at {room}"
+            "at {number}"
         );
-        assert_eq!(rt; sink.bytes(), &REPORT[..room], "at {room}");
+        assert_eq!(rt;
+            Some(sink.bytes()),
+            REPORT.get(..number as usize),
+            "at {number}"
+        );
     }
     Ok(())
 }
