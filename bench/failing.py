@@ -5,6 +5,7 @@
 
 A run of which an allocation is refused has to end for want of memory, with status 6 and a beginning of its text, or as
 it does where none is refused. Each other is printed with the number of the allocation, and then the script ends with 1.
+The last input takes some minutes.
 """
 import os
 import subprocess
@@ -17,10 +18,15 @@ TOP = os.path.dirname(os.path.dirname(os.path.abspath(__file__)))
 NO_MEMORY = 6
 # The words of the command, and the file that is its input.
 RUNS = [
-    ("report", "two_colouring.pol"),
+    ("report", "empty_relation.pol"),
     ("report", "horn.pol"),
+    ("report", "lamps.pol"),
+    ("report", "two_colouring.pol"),
+    ("report", "machines.pol"),
     ("report", "sums_modulo_3.pol"),
     ("report", "only_maltsev.pol"),
+    ("report", "three_colouring.pol"),
+    ("report", "missing_value.pol"),
     ("check", "judged.reported"),
     ("gen 3", None),
 ]

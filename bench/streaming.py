@@ -1,92 +1,120 @@
 #!/usr/bin/env python3
-"""Times when a reader at the other end of a pipe has the lines of a report, and tells the memory of the run.
+"""Times the lines of one `polyanna report` as they come through a pipe: each is written as soon as it is found.
 
-    bench/streaming.py       makes the files in a temporary folder, and prints a line for each
+    bench/streaming.py [PROGRAM]    makes the file in a temporary folder, and prints a line for each of three runs
 
-Of one file the class lines are dear. The other has eight instances with a No of arity four, whose logs are as long as
-the families of `solving.py` have them: a log is printed without the steps that none refers to, and few are left.
+The file is at the limits: 32 relations over five values, and eight instances of 40 variables and 256 constraints. The
+relations are the four rotations of the values, triples of two neighbouring values that are not the upper one three
+times, and all tuples. They are preserved by an operation of arity four and by none of the other classes, and the search
+for it is what the last class lines wait for. Each instance is a ring of rotations through all variables, by steps of
+seven, in which one of them, another in each instance, goes back; it is written again until there are 256 constraints.
+So the rotations do not close, which arc consistency does not show, and each No has a log of 4,456 steps. The longest
+that was found, among rings by other steps or at random, and with other rotations, has 4,486; the families of
+`solving.py` have some 150, as a log has only what its last step leads to. With a PROGRAM, that is run in the place of
+the proved one.
 
-Wanted: the first class line before the last is searched, at least a millisecond before it is there, the first instance
-as long before the last, and at most 128 MB.
+Each line has the time from the start to the first class line, to the last one, to the first line of an instance and to
+the end, the number of reads of the pipe, the steps and the bytes of the report, and the most memory of the program.
+
+Wanted: in each run the first class line comes by an earlier read than the last one, by at least a millisecond, and the
+program ends with status 0 and takes at most 128 MB.
 """
+import itertools
 import os
 import subprocess
 import sys
 import tempfile
 import time
 
-import classes
-import solving
 from read import PROGRAM
+from solving import few_ones, full
 
-MEMORY = 128 << 20
-APART = 0.001
-
-
-def dear_classes():
-    """The dearest of the languages that have a table."""
-    return dict(classes.files())["the dearest with a table"]
-
-
-def eight_logs():
-    """Eight instances of 40 variables with a ring, over the family whose logs are the longest."""
-    name = "arity four, of 4 places over 5 values"
-    _, _, size, relations, ring = next(family for family in solving.families() if family[0] == name)
-    lines = solving.text(size, relations, 0, []).splitlines()[:-1]
-    for seed in range(8):
-        constraints = solving.drawn(size, relations, ring, 40, 120, "ring", seed)
-        own = solving.text(size, relations, 40, constraints).splitlines()[:-1]
-        begin = next(number for number, line in enumerate(own) if line.startswith("instance "))
-        lines += [own[begin].replace("instance i ", f"instance i{seed} "), *own[begin + 1 :]]
-    return "\n".join([*lines, "end", ""])
+VALUES = 5
+VARIABLES = 40
+CONSTRAINTS = 256
+INSTANCES = 8
+RELATIONS = 32
+STRIDE = 7
+MEMORY = 128e6
+SECONDS = 0.001
 
 
-def pieces(path):
-    """What each read of the report gave, with the seconds since the start; the status, and the most memory."""
-    taken = []
+def relations():
+    """The names and the rows of the relations; the last ones have all tuples."""
+    shifts = range(VALUES)
+    found = [(f"turn{by}", [(value, (value + by) % VALUES) for value in shifts]) for by in shifts[1:]]
+    found += [(f"few{by}", [tuple((value + by) % VALUES for value in row) for row in few_ones(3)]) for by in shifts]
+    found += [(f"pair{number}", full(VALUES, 2)) for number in range(4)]
+    return found + [(f"any{number}", full(VALUES, 1)) for number in range(RELATIONS - len(found))]
+
+
+def ring(back):
+    """The constraints of an instance, of which the one at this place goes back, written again up to the limit."""
+    places = [STRIDE * number % VARIABLES for number in range(VARIABLES)]
+    pairs = zip(places, places[1:] + places[:1])
+    lines = [f"constraint turn{4 if number == back else 1} x{x} x{y}" for number, (x, y) in enumerate(pairs)]
+    return list(itertools.islice(itertools.cycle(lines), CONSTRAINTS))
+
+
+def text():
+    lines = ["polyanna 1", f"domain {VALUES}"]
+    for name, rows in relations():
+        lines.append(f"relation {name} {len(rows[0])}")
+        lines += ["tuple " + " ".join(map(str, row)) for row in rows]
+    for back in range(INSTANCES):
+        lines.append(f"instance i{back} " + " ".join(f"x{number}" for number in range(VARIABLES)))
+        lines += ring(back)
+    return "\n".join(lines + ["end", ""])
+
+
+def run(program, path):
+    """What was read and when, seconds from the start, with the time of the end, the status, and the most memory."""
+    parts = []
     with open(path, "rb") as source:
         begin = time.perf_counter()
-        process = subprocess.Popen([PROGRAM, "report"], stdin=source, stdout=subprocess.PIPE)
-    while piece := os.read(process.stdout.fileno(), 1 << 16):
-        taken.append((time.perf_counter() - begin, piece))
-    process.stdout.close()
-    _, status, usage = os.wait4(process.pid, 0)
-    process.returncode = os.waitstatus_to_exitcode(status)
-    return taken, process.returncode, usage.ru_maxrss * 1024
+        with subprocess.Popen([program, "report"], stdin=source, stdout=subprocess.PIPE) as running:
+            while part := os.read(running.stdout.fileno(), 1 << 16):
+                parts.append((time.perf_counter() - begin, part))
+            _, status, used = os.wait4(running.pid, 0)
+            ended = time.perf_counter() - begin
+            running.returncode = os.waitstatus_to_exitcode(status)
+    return parts, ended, running.returncode, used.ru_maxrss * 1024
 
 
-def times(taken, word):
-    """When the first and the last line that begin with the word were there to their ends, and how many there are."""
-    found, line = [], b""
-    for second, piece in taken:
-        for part in piece.splitlines(keepends=True):
-            line += part
-            if line.endswith(b"\n"):
-                if line.startswith(word):
-                    found.append(second)
-                line = b""
-    return found[0], found[-1], len(found)
+def arrivals(parts):
+    """Each line that begins with `class` or `instance`, with the time of the read that ended it."""
+    found, rest = [], b""
+    for when, part in parts:
+        *lines, rest = (rest + part).split(b"\n")
+        found += [(when, line) for line in lines if line.startswith((b"class ", b"instance "))]
+    return found
 
 
 def main():
-    if not os.access(PROGRAM, os.X_OK):
+    program = os.path.abspath(sys.argv[1]) if len(sys.argv) > 1 else PROGRAM
+    if not os.access(program, os.X_OK):
         sys.exit("bench: build the program first, by ./polyanna")
     failed = False
     with tempfile.TemporaryDirectory() as folder:
         path = os.path.join(folder, "input")
-        for name, source, word in [("classes", dear_classes(), b"class "), ("instances", eight_logs(), b"instance ")]:
-            with open(path, "w", encoding="ascii") as out:
-                out.write(source)
-            taken, status, used = pieces(path)
-            first, last, count = times(taken, word)
-            report = b"".join(piece for _, piece in taken)
-            steps = sum(line[:2] in (b"c ", b"v ") for line in report.splitlines())
-            good = status == 0 and last - first >= APART and used <= MEMORY
+        with open(path, "w", encoding="ascii") as out:
+            out.write(text())
+        for _ in range(3):
+            parts, ended, status, used = run(program, path)
+            found = arrivals(parts)
+            classes = [when for when, line in found if line.startswith(b"class ")]
+            answers = [(when, line.split()) for when, line in found if line.startswith(b"instance ")]
+            if status != 0 or len(classes) != 7 or len(answers) != INSTANCES:
+                sys.exit(f"bench: the run ended with {status}, {len(classes)} class lines and {len(answers)} answers")
+            steps = sum(int(words[4]) for _, words in answers if words[2:4] == [b"no", b"nu4"])
+            size = sum(len(part) for _, part in parts)
+            good = classes[-1] - classes[0] >= SECONDS and used <= MEMORY
             failed |= not good
             print(
-                f"{name}: the first of {count} lines after {1000 * first:.1f} ms, the last after {1000 * last:.1f} ms, "
-                f"the end after {1000 * taken[-1][0]:.1f} ms, {len(report)} bytes, {steps} steps, "
-                f"{used / 1e6:.0f} MB of memory{'' if good else '  MISSED'}"
+                f"first class line {1000 * classes[0]:.1f} ms, last {1000 * classes[-1]:.1f} ms, first answer "
+                f"{1000 * answers[0][0]:.1f} ms, end {1000 * ended:.1f} ms, {len(parts)} reads, {steps} steps in "
+                f"{size / 1e6:.2f} MB, {used / 1e6:.0f} MB of memory{'' if good else '  MISSED'}",
+                flush=True,
             )
     sys.exit(1 if failed else 0)
 
