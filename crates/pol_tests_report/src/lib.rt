@@ -1,4 +1,4 @@
-//! Tests of files and reports: their texts, the verdicts on reports, and generated files.
+//! Tests of files and reports: their texts, read, printed and sent, and generated files.
 #![tactic(auto)]
 
 #[cfg(test)]
@@ -11,5 +11,3 @@ mod printing;
 mod reading;
 #[cfg(test)]
 mod sending;
-#[cfg(test)]
-mod verdicts;

@@ -21,11 +21,14 @@ const ROOMS: [usize; 7] = [0, 1, 4095, 4096, 4097, 8192, 9621];
 fn sinks_without_room_for_a_long_log(rt: HostRuntime) -> Result<(), Fail> {
     let item = item(&rt, rt.alloc())?;
     let text = text(rt.alloc())?;
-    assert!(rt; printable(&item));
     assert_eq!(rt; text.as_slice().len(), 9622);
     for room in ROOMS {
         let mut sink = MemorySink::new(rt.alloc(), room, 100, &[])?;
-        assert_eq!(rt; send_item(&mut sink, &item), Err(WriteFault), "at {room}");
+        assert_eq!(rt;
+            send_printable(&rt, &mut sink, &item),
+            Err(WriteFault),
+            "at {room}"
+        );
         assert_eq!(rt;
             Some(sink.bytes()),
             text.as_slice().get(..room),
@@ -39,11 +42,14 @@ fn sinks_without_room_for_a_long_log(rt: HostRuntime) -> Result<(), Fail> {
 fn writes_that_fail_within_a_long_log(rt: HostRuntime) -> Result<(), Fail> {
     let item = item(&rt, rt.alloc())?;
     let text = text(rt.alloc())?;
-    assert!(rt; printable(&item));
     for number in 0..3 {
         let failing = [number];
         let mut sink = MemorySink::new(rt.alloc(), 10_000, 10_000, &failing)?;
-        assert_eq!(rt; send_item(&mut sink, &item), Err(WriteFault), "at {number}");
+        assert_eq!(rt;
+            send_printable(&rt, &mut sink, &item),
+            Err(WriteFault),
+            "at {number}"
+        );
         assert!(rt; text.as_slice().starts_with(sink.bytes()), "at {number}");
         assert!(rt; sink.bytes().len() < text.as_slice().len(), "at {number}");
     }
@@ -53,16 +59,24 @@ fn writes_that_fail_within_a_long_log(rt: HostRuntime) -> Result<(), Fail> {
 #[test]
 fn a_long_report_byte_by_byte(rt: HostRuntime) -> Result<(), Fail> {
     let item = item(&rt, rt.alloc())?;
-    assert!(rt; printable(&item));
     let mut sink = MemorySink::new(rt.alloc(), 10_000, 1, &[])?;
     assert_eq!(rt; send_head(&mut sink), Ok(()));
-    assert_eq!(rt; send_item(&mut sink, &item), Ok(()));
+    assert_eq!(rt; send_printable(&rt, &mut sink, &item), Ok(()));
     assert_eq!(rt; send_last(&mut sink), Ok(()));
     let mut report = Values::from_slice(rt.alloc(), b"polyanna-report 1\n")?;
     report.append(text(rt.alloc())?.as_slice())?;
     report.append(b"end\n")?;
     assert_eq!(rt; sink.bytes(), report.as_slice());
     Ok(())
+}
+
+fn send_printable(
+    rt: &impl Abort,
+    sink: &mut MemorySink<'_>,
+    item: &Item,
+) -> Result<(), WriteFault> {
+    assert!(rt; printable(item));
+    send_item(sink, item)
 }
 
 fn text(alloc: Global) -> Result<Values, NoMemory> {

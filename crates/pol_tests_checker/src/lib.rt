@@ -1,0 +1,5 @@
+//! Tests of the verdicts on reports.
+#![tactic(auto)]
+
+#[cfg(test)]
+mod verdicts;
