@@ -8,10 +8,10 @@ relations are the four rotations of the values, triples of two neighbouring valu
 times, and all tuples. They are preserved by an operation of arity four and by none of the other classes, and the search
 for it is what the last class lines wait for. Each instance is a ring of rotations through all variables, by steps of
 seven, in which one of them, another in each instance, goes back; it is written again until there are 256 constraints.
-So the rotations do not close, which arc consistency does not show, and each No has a log of 4,456 steps. The longest
-that was found, among rings by other steps or at random, and with other rotations, has 4,486; the families of
-`solving.py` have some 150, as a log has only what its last step leads to. With a PROGRAM, that is run in the place of
-the proved one.
+So the rotations do not close, which arc consistency does not show, and each No has a log of 4,456 steps, to which the
+last of some 430,000 leads that the solver made. The longest log that was found, among rings by other steps or at
+random, and with other rotations, has 4,486 steps; the families of `solving.py` have some 150. With a PROGRAM, that is
+run in the place of the proved one.
 
 Each line has the time from the start to the first class line, to the last one, to the first line of an instance and to
 the end, the number of reads of the pipe, the steps and the bytes of the report, and the most memory of the program.
