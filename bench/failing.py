@@ -12,9 +12,8 @@ import subprocess
 import sys
 import tempfile
 
-from read import PROGRAM
+from read import PROGRAM, TOP
 
-TOP = os.path.dirname(os.path.dirname(os.path.abspath(__file__)))
 NO_MEMORY = 6
 # The words of the command, and the file that is its input.
 RUNS = [
